@@ -1,0 +1,7 @@
+-- Lemmas that belong to no one function.
+pub mod Widths
+pub mod TwosComplement
+pub mod Casts
+pub mod Splice
+pub mod Following
+pub mod ScalarValues

@@ -1,0 +1,80 @@
+-- The law of every width, by induction over it: one byte more is one digit more, to the base 256. Assumes nothing.
+use mathlib.Core.Path.{_≡_, refl}
+use mathlib.Core.List.{List, [], _∷_, _++_, append-assoc}
+use Prim.Native.Nat.{ℕ, zero, suc, _+_, _*_, _/_, _%_, _<_, _^_, _≤_}
+use native.Mathlib.Nat.{pow-suc, pow-zero, div-one, div-add-mod', div-div-eq-div-mul, mul-comm}
+use native.Mathlib.Omega.{arith}
+use lib.Arith.{digits-div, digits-mod}
+use lib.ListN.{length, getD, take, drop, length-append, length-drop}
+use borrow.Author.Tests.{le-leb, lt-leb}
+use lib.Seq.{getD-append-add, take-suc, getD-drop, getD-at}
+use Rattle.wire.specs.Integers.{Bytes, digits, number, numberAt, Law}
+use Rattle.wire.specs.declared.integers.Number.the-variants.{Value, Cut}
+
+size : (n x : ℕ) → length (digits n x) ≡ n
+unfolding digits
+size zero x = refl
+size (suc n) x = simp length-append (rw (size n (x / 256)) (omega arith))
+
+range : (n : ℕ) (s : List ℕ) (at : ℕ) → Bytes s → number n s at < 256 ^ n
+unfolding number Bytes
+range zero s at b = omega arith
+range (suc n) s at b = rw pow-suc (omega (arith, range n s at b, b (at + n)))
+
+below : (n x : ℕ) → x < 256 ^ suc n → x / 256 < 256 ^ n
+below n x h = let k : x < 256 ^ n * 256 = rw pow-suc at h in omega arith
+
+read-written : (n x : ℕ) (p q : List ℕ) → x < 256 ^ n → number n (p ++ (digits n x ++ q)) (length p) ≡ x
+unfolding number digits
+read-written zero x p q h = omega arith
+read-written (suc n) x p q h =
+    rw (
+      append-assoc (digits n (x / 256)) (x % 256 ∷ []) q,
+      read-written n (x / 256) p (x % 256 ∷ q) (below n x h),
+      getD-append-add p (digits n (x / 256) ++ (x % 256 ∷ q)) n 0,
+      getD-at (digits n (x / 256)) (x % 256) q 0 n (size n (x / 256)),
+    )
+    (div-add-mod' x 256)
+
+written-read : (n : ℕ) (s : List ℕ) (at : ℕ) → Bytes s → at + n ≤ length s → digits n (number n s at) ≡ take n (drop at s)
+unfolding number digits Bytes
+written-read zero s at b h = refl
+written-read (suc n) s at b h =
+    let k : at + n ≤ length s = omega arith in
+    let j : n < length (drop at s) = simp length-drop (omega arith) in
+    rw (
+      digits-div (number n s at) (b (at + n)),
+      digits-mod (number n s at) (b (at + n)),
+      written-read n s at b k,
+      take-suc (drop at s) n 0 j,
+      getD-drop at s n 0,
+    )
+
+-- The digits from the front, as the code that writes them from the back meets them.
+pub digits-front : (k x : ℕ) → digits (suc k) x ≡ (x / 256 ^ k % 256) ∷ digits k x
+unfolding digits
+digits-front zero x = rw (pow-zero, div-one)
+digits-front (suc k) x = rw (digits-front k (x / 256)) (simp (div-div-eq-div-mul, pow-suc, mul-comm (256 ^ k) 256))
+
+-- A list of bytes with one more in front.
+pub bytes-cons : (b : ℕ) (s : List ℕ) → b < 256 → Bytes s → Bytes (b ∷ s)
+unfolding Bytes
+bytes-cons b s h t zero = h
+bytes-cons b s h t (suc i) = t i
+
+bytes : (n x : ℕ) → Bytes (digits n x)
+bytes zero x = unfold digits Bytes in (λ i. omega arith)
+bytes (suc n) x = rw digits-front (bytes-cons (x / 256 ^ n % 256) (digits n x) (omega arith) (bytes n x))
+
+pub integers : (n : ℕ) → Law n
+integers n = record { size = size n; bytes = bytes n; range = range n; read-written = read-written n; written-read = written-read n }
+
+-- A number that is there, and one that is cut.
+module _ (n : ℕ) (s : List ℕ) (at : ℕ) where
+  pub there : at + n ≤ length s → numberAt n s at ≡ Value (number n s at)
+  unfolding numberAt
+  there h = rw (le-leb _ _ h)
+
+  pub cut : length s < at + n → numberAt n s at ≡ Cut
+  unfolding numberAt
+  cut h = rw (lt-leb _ _ h)

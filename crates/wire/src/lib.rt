@@ -1,0 +1,19 @@
+// The primitives of the wire: big-endian integers, signed integers, UTF-8, and bytes put into a lent buffer.
+// No function here has a `requires`: each answers for any slice, any place and any number.
+mod buffer;
+mod integers;
+mod signed;
+mod utf8;
+
+pub use buffer::put_bytes;
+pub use integers::Number;
+pub use integers::Width;
+pub use integers::number_at;
+pub use integers::put_number;
+pub use signed::signed8;
+pub use signed::signed32;
+pub use signed::signed64;
+pub use signed::unsigned8;
+pub use signed::unsigned32;
+pub use signed::unsigned64;
+pub use utf8::is_utf8;
