@@ -8,7 +8,7 @@ use lib.Arith.{digits-div, digits-mod}
 use lib.ListN.{length, getD, take, drop, length-append, length-drop}
 use borrow.Author.Tests.{le-leb, lt-leb}
 use lib.Seq.{getD-append-add, take-suc, getD-drop, getD-at}
-use Rattle.wire.specs.Integers.{Bytes, digits, number, numberAt, Law}
+use Rattle.wire.specs.Integers.{Bytes, bigEndian, digits, numberAt, Law}
 use Rattle.wire.specs.declared.integers.Number.the-variants.{Value, Cut}
 
 size : (n x : ℕ) → length (digits n x) ≡ n
@@ -16,16 +16,16 @@ unfolding digits
 size zero x = refl
 size (suc n) x = simp length-append (rw (size n (x / 256)) (omega arith))
 
-range : (n : ℕ) (s : List ℕ) (at : ℕ) → Bytes s → number n s at < 256 ^ n
-unfolding number Bytes
+range : (n : ℕ) (s : List ℕ) (at : ℕ) → Bytes s → bigEndian n s at < 256 ^ n
+unfolding bigEndian Bytes
 range zero s at b = omega arith
 range (suc n) s at b = rw pow-suc (omega (arith, range n s at b, b (at + n)))
 
 below : (n x : ℕ) → x < 256 ^ suc n → x / 256 < 256 ^ n
 below n x h = let k : x < 256 ^ n * 256 = rw pow-suc at h in omega arith
 
-read-written : (n x : ℕ) (p q : List ℕ) → x < 256 ^ n → number n (p ++ (digits n x ++ q)) (length p) ≡ x
-unfolding number digits
+read-written : (n x : ℕ) (p q : List ℕ) → x < 256 ^ n → bigEndian n (p ++ (digits n x ++ q)) (length p) ≡ x
+unfolding bigEndian digits
 read-written zero x p q h = omega arith
 read-written (suc n) x p q h =
     rw (
@@ -36,15 +36,15 @@ read-written (suc n) x p q h =
     )
     (div-add-mod' x 256)
 
-written-read : (n : ℕ) (s : List ℕ) (at : ℕ) → Bytes s → at + n ≤ length s → digits n (number n s at) ≡ take n (drop at s)
-unfolding number digits Bytes
+written-read : (n : ℕ) (s : List ℕ) (at : ℕ) → Bytes s → at + n ≤ length s → digits n (bigEndian n s at) ≡ take n (drop at s)
+unfolding bigEndian digits Bytes
 written-read zero s at b h = refl
 written-read (suc n) s at b h =
     let k : at + n ≤ length s = omega arith in
     let j : n < length (drop at s) = simp length-drop (omega arith) in
     rw (
-      digits-div (number n s at) (b (at + n)),
-      digits-mod (number n s at) (b (at + n)),
+      digits-div (bigEndian n s at) (b (at + n)),
+      digits-mod (bigEndian n s at) (b (at + n)),
       written-read n s at b k,
       take-suc (drop at s) n 0 j,
       getD-drop at s n 0,
@@ -71,7 +71,7 @@ integers n = record { size = size n; bytes = bytes n; range = range n; read-writ
 
 -- A number that is there, and one that is cut.
 module _ (n : ℕ) (s : List ℕ) (at : ℕ) where
-  pub there : at + n ≤ length s → numberAt n s at ≡ Value (number n s at)
+  pub there : at + n ≤ length s → numberAt n s at ≡ Value (bigEndian n s at)
   unfolding numberAt
   there h = rw (le-leb _ _ h)
 

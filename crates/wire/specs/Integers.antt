@@ -20,9 +20,9 @@ digits zero x = []
 digits (suc n) x = digits n (x / 256) ++ (x % 256 ∷ [])
 
 -- The number that the n bytes from a place on are, big endian.
-unfoldable pub number : ℕ → List ℕ → ℕ → ℕ
-number zero s at = 0
-number (suc n) s at = number n s at * 256 + getD s (at + n) 0
+unfoldable pub bigEndian : ℕ → List ℕ → ℕ → ℕ
+bigEndian zero s at = 0
+bigEndian (suc n) s at = bigEndian n s at * 256 + getD s (at + n) 0
 
 -- The bytes that a width has.
 abbrev pub widthOf : Width → ℕ
@@ -34,12 +34,12 @@ widthOf Eight = 8
 
 -- The number of n bytes at a place, if they are all there.
 unfoldable pub numberAt : ℕ → List ℕ → ℕ → Number
-numberAt n s at = cond (leb (at + n) (length s)) (Value (number n s at)) Cut
+numberAt n s at = cond (leb (at + n) (length s)) (Value (bigEndian n s at)) Cut
 
 -- The law of a width: what is written is read, what is read is written, and neither leaves the width.
 pub record Law (n : ℕ) : Type 0 where
   pub size : (x : ℕ) → length (digits n x) ≡ n
   pub bytes : (x : ℕ) → Bytes (digits n x)
-  pub range : (s : List ℕ) (at : ℕ) → Bytes s → number n s at < 256 ^ n
-  pub read-written : (x : ℕ) (p q : List ℕ) → x < 256 ^ n → number n (p ++ (digits n x ++ q)) (length p) ≡ x
-  pub written-read : (s : List ℕ) (at : ℕ) → Bytes s → at + n ≤ length s → digits n (number n s at) ≡ take n (drop at s)
+  pub range : (s : List ℕ) (at : ℕ) → Bytes s → bigEndian n s at < 256 ^ n
+  pub read-written : (x : ℕ) (p q : List ℕ) → x < 256 ^ n → bigEndian n (p ++ (digits n x ++ q)) (length p) ≡ x
+  pub written-read : (s : List ℕ) (at : ℕ) → Bytes s → at + n ≤ length s → digits n (bigEndian n s at) ≡ take n (drop at s)

@@ -2,7 +2,7 @@
 ghost use mathlib.Core.Path.{_≡_};
 ghost use Prim.Native.Nat.{_+_, _≤_};
 ghost use lib.ListN.{length};
-ghost use Rattle.wire.specs.Integers.{digits, number, numberAt, widthOf};
+ghost use Rattle.wire.specs.Integers.{bigEndian, digits, numberAt, widthOf};
 ghost use Rattle.wire.specs.Buffer.{splice, put, holds};
 
 // How many bytes an integer takes.
@@ -72,7 +72,7 @@ fn wide(b: u8) -> u64
 
 fn big_endian(s: &[u8], at: usize, n: usize) -> u64
     requires { ⌜ (n ≤ 8) × (at + n ≤ length (now s)) ⌝ }
-    ensures { λ r. ⌜ r ≡ number n (now (s .entry)) at ⌝ }
+    ensures { λ r. ⌜ r ≡ bigEndian n (now (s .entry)) at ⌝ }
 {
     let mut v: u64 = 0;
     let mut i = 0;

@@ -8,12 +8,12 @@ use native.Mathlib.Omega.{arith}
 use lib.Dec.{lit<}
 use lib.ListN.{getD}
 use borrow.Author.Needs.{needs}
-use Rattle.wire.specs.Integers.{number}
+use Rattle.wire.specs.Integers.{bigEndian}
 use Rattle.wire.proofs.integers.big_endian.Statement.{statement}
 use Rattle.wire.proofs.integers.big_endian.Tie as tie
 
 abbrev Inv-loop : tie.InvT-loop
-Inv-loop s at n v₀ i₀ v i = (i ≤ n) × (v ≡ number i s at) × (v < 256 ^ i)
+Inv-loop s at n v₀ i₀ v i = (i ≤ n) × (v ≡ bigEndian i s at) × (v < 256 ^ i)
 
 abbrev μ-loop : tie.MeasureT-loop
 μ-loop s at n v₀ i₀ v i = n - i
@@ -27,15 +27,15 @@ small v i n h l m =
 more : (v b i : ℕ) → v < 256 ^ i → b < 256 → v * 256 + b < 256 ^ (i + 1)
 more v b i h l = rw (add-one, pow-suc) (omega arith)
 
-step : (s : List ℕ) (at i v b : ℕ) → v ≡ number i s at → b ≡ getD s (at + i) 0 → v * 256 + b ≡ number (i + 1) s at
-unfolding number
+step : (s : List ℕ) (at i v b : ℕ) → v ≡ bigEndian i s at → b ≡ getD s (at + i) 0 → v * 256 + b ≡ bigEndian (i + 1) s at
+unfolding bigEndian
 step s at i v b e f = rw (add-one, e, f)
 
-end : (s : List ℕ) (at i n v : ℕ) → v ≡ number i s at → i ≡ n → v ≡ number n s at
+end : (s : List ℕ) (at i n v : ℕ) → v ≡ bigEndian i s at → i ≡ n → v ≡ bigEndian n s at
 end s at i n v e f = rw f at e
 
 loop-holds : tie.Need-loop-holds Inv-loop μ-loop
-unfolding number
+unfolding bigEndian
 loop-holds c = search needs
 
 mul-v : tie.Need-mul-v Inv-loop μ-loop

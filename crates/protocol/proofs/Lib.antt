@@ -1,0 +1,4 @@
+-- Lemmas that belong to no one function.
+pub mod Unlisted
+pub mod Counted
+pub mod FrameRows

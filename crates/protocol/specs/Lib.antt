@@ -1,0 +1,9 @@
+-- The protocol's vocabulary, from 01 and from the reference that it condenses (004).
+pub mod Refusals
+pub mod ResponseCodes
+pub mod Kinds
+pub mod Table
+pub mod TableFacts
+pub mod Decision
+pub mod Fields
+pub mod Frames

@@ -1,0 +1,20 @@
+// The protocol's vocabulary: refusal numbers, response codes, keys and their layouts, and the typed frame.
+mod chunk;
+mod frame;
+mod layout;
+mod offset;
+mod place;
+pub mod refusal;
+mod response_code;
+
+pub use chunk::Chunk;
+pub use chunk::ChunkHeader;
+pub use frame::Frame;
+pub use layout::Layout;
+pub use layout::Picked;
+pub use layout::layout_of;
+pub use offset::OffsetSpecification;
+pub use place::Elements;
+pub use place::NullablePlace;
+pub use place::Place;
+pub use response_code::ResponseCode;

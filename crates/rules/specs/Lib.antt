@@ -1,0 +1,6 @@
+-- What reading and writing a frame mean, from 01.
+pub mod Outcome
+pub mod Reading
+pub mod Grammar
+pub mod Writing
+pub mod Cases

@@ -1,0 +1,209 @@
+-- Reading (01 "Numbers and text on the wire", "Chunks", "Which check comes first"). `s` is the part that is read and
+-- `at` the place reached in it. The place of a refusal is where the field at fault begins.
+use mathlib.Core.Bool.{Bool, true, false, cond, not, _&&_, _||_}
+use mathlib.Core.List.{List, [], _∷_, map}
+use mathlib.Core.Option.{none, some}
+use Prim.Native.Nat.{ℕ, zero, suc, _+_, _-_}
+use lib.Dec.{eqb, ltb, leb}
+use lib.IntN.{ℤ, pos, negsuc}
+use lib.ListN.{length, take, drop}
+use Rattle.wire.specs.Integers.{bigEndian}
+use Rattle.wire.specs.Signed as two's
+use Rattle.wire.specs.Utf8.{utf8}
+use Rattle.protocol.specs.Decision.{Decision, layout, unlistedKey, unlistedVersion, decide}
+use Rattle.protocol.specs.Fields.{Field, Fields, number, integer, elements, place, overPlaces, further}
+use Rattle.protocol.specs.Fields as F
+use Rattle.protocol.specs.Kinds.{Form, text, reference, bytes, lengthWidth, Kind, unsigned, signed, string, specification, list, chunk, Row, end, _·_}
+use Rattle.protocol.specs.Refusals.{frameTooLarge, frameTooSmall, unknownKey, unknownVersion, fieldCut, badLength, notUtf8, referenceTooLong, valueNotAdmitted, bytesLeft}
+use Rattle.protocol.specs.Table.{rowOf}
+use Rattle.protocol.specs.declared.chunk.ChunkHeader.{ChunkHeader}
+use Rattle.protocol.specs.declared.offset.OffsetSpecification.the-variants.{None, First, Last, Next, Offset, Timestamp}
+use Rattle.protocol.specs.declared.place.Place.{Place}
+use Rattle.rules.specs.Outcome.{Outcome, got, refused, then, refuseIf, repeated}
+
+-- A number of n bytes (6).
+unfoldable pub readNumber : ℕ → List ℕ → ℕ → Outcome ℕ
+readNumber n s at = refuseIf (ltb (length s) (at + n)) fieldCut at (got (bigEndian n s at) (at + n))
+
+-- An unsigned number (6), admitted up to a largest value (10).
+unfoldable pub readUnsigned : ℕ → ℕ → List ℕ → ℕ → Outcome (Field Place)
+readUnsigned n most s at =
+    then (readNumber n s at) (λ x next.
+    refuseIf (ltb most x) valueNotAdmitted at
+    (got (number x) next))
+
+-- A signed number (6).
+unfoldable pub readSigned : ℕ → List ℕ → ℕ → Outcome (Field Place)
+readSigned n s at = then (readNumber n s at) (λ x next. got (integer (two's.signed n x)) next)
+
+-- A reference is at most 256 bytes.
+abbrev pub tooLong : Form → ℕ → Bool
+tooLong text n = false
+tooLong reference n = ltb 256 n
+tooLong bytes n = false
+
+-- Text and references are UTF-8.
+abbrev pub isText : Form → List ℕ → Bool
+isText text b = utf8 b
+isText reference b = utf8 b
+isText bytes b = true
+
+-- Behind a length: the length (7), the reference limit (9), the body (6), UTF-8 (8). Length -1 means null.
+abbrev pub readBody : Form → Bool → List ℕ → ℕ → ℤ → ℕ → Outcome (Field Place)
+readBody form nullable s at (pos n) next =
+    refuseIf (tooLong form n) referenceTooLong at
+    (refuseIf (ltb (length s) (next + n)) fieldCut at
+    (refuseIf (not (isText form (take n (drop next s)))) notUtf8 at
+    (got (F.string (some (place next n))) (next + n))))
+readBody form nullable s at (negsuc zero) next = refuseIf (not nullable) badLength at (got (F.string none) next)
+readBody form nullable s at (negsuc (suc k)) next = refused badLength at
+
+-- Text, a reference or bytes: first the bytes of the length (6).
+unfoldable pub readString : Form → Bool → List ℕ → ℕ → Outcome (Field Place)
+readString form nullable s at =
+    then (readNumber (lengthWidth form) s at) (λ x next.
+    readBody form nullable s at (two's.signed (lengthWidth form) x) next)
+
+-- An offset specification: two bytes (6), type (10), and eight more bytes (6) for types 4 and 5, none otherwise.
+unfoldable pub readSpecification : Bool → List ℕ → ℕ → Outcome (Field Place)
+readSpecification admitsNone s at =
+    then (readNumber 2 s at) (λ type next.
+    refuseIf (ltb 5 type || (eqb type 0 && not admitsNone)) valueNotAdmitted at
+    (cond (eqb type 0) (got (F.offset None) next)
+    (cond (eqb type 1) (got (F.offset First) next)
+    (cond (eqb type 2) (got (F.offset Last) next)
+    (cond (eqb type 3) (got (F.offset Next) next)
+    (then (readNumber 8 s next) (λ x behind.
+    cond (eqb type 4) (got (F.offset (Offset x)) behind)
+    (got (F.offset (Timestamp (two's.signed 8 x))) behind))))))))
+
+-- A list's elements, by its count: a negative one gives 7.
+abbrev pub readCounted : (List ℕ → ℕ → Outcome (List (Field Place))) → List ℕ → ℕ → ℤ → ℕ → Outcome (Field Place)
+readCounted element s at (pos n) next =
+    then (repeated element n s next) (λ _ behind.
+    got (elements n (place next (behind - next))) behind)
+readCounted element s at (negsuc k) next = refused badLength at
+
+-- A list: the bytes of the count (6), the count (7), then each element in turn.
+unfoldable pub readList : (List ℕ → ℕ → Outcome (List (Field Place))) → List ℕ → ℕ → Outcome (Field Place)
+readList element s at =
+    then (readNumber 4 s at) (λ x next.
+    readCounted element s at (two's.signed 4 x) next)
+
+-- A chunk's header, where its 48 bytes are there.
+abbrev pub headerAt : List ℕ → ℕ → ChunkHeader
+headerAt s at =
+    record {
+      magic = two's.signed 1 (bigEndian 1 s at);
+      «chunk_type» = two's.signed 1 (bigEndian 1 s (at + 1));
+      entries = bigEndian 2 s (at + 2);
+      records = bigEndian 4 s (at + 4);
+      timestamp = two's.signed 8 (bigEndian 8 s (at + 8));
+      epoch = bigEndian 8 s (at + 16);
+      «first_offset» = bigEndian 8 s (at + 24);
+      checksum = two's.signed 4 (bigEndian 4 s (at + 32));
+      «data_length» = bigEndian 4 s (at + 36);
+      «trailer_length» = bigEndian 4 s (at + 40);
+      «bloom_size» = bigEndian 1 s (at + 44);
+      reserved = bigEndian 3 s (at + 45);
+    }
+
+-- Types are 0, 1, 2.
+abbrev pub isChunkType : ℤ → Bool
+isChunkType (pos n) = leb n 2
+isChunkType (negsuc k) = false
+
+-- Only a chunk of type 0 has entries.
+abbrev pub hasEntries : ℤ → Bool
+hasEntries (pos n) = eqb n 0
+hasEntries (negsuc k) = false
+
+-- An entry: four bytes (6) whose top bit is 0 (10) and whose other 31 bits are the size, then the message (6).
+unfoldable pub readEntry : List ℕ → ℕ → Outcome Place
+readEntry s at =
+    then (readNumber 4 s at) (λ x next.
+    refuseIf (leb 0x8000_0000 x) valueNotAdmitted at
+    (refuseIf (ltb (length s) (next + x)) fieldCut at
+    (got (place next x) (next + x))))
+
+-- The data of a chunk that starts at a place. For type 0: records equals entries (10), that many entries, and nothing
+-- else (11). For types 1 and 2 it stays one unopened part.
+abbrev pub readData : ChunkHeader → List ℕ → ℕ → Outcome Unit
+readData h s at =
+    cond (hasEntries (h .«chunk_type»))
+    (refuseIf (not (eqb (h .records) (h .entries))) valueNotAdmitted (at + 4)
+    (then (repeated readEntry (h .entries) s (at + 48)) (λ _ behind.
+    refuseIf (ltb behind (length s)) bytesLeft behind
+    (got tt behind))))
+    (got tt (length s))
+
+-- Behind a whole header: type (10), data present (6), data shorter than the rest (11), then the data.
+abbrev pub readHeaded : ChunkHeader → List ℕ → ℕ → Outcome (Field Place)
+readHeaded h s at =
+    refuseIf (not (isChunkType (h .«chunk_type»))) valueNotAdmitted (at + 1)
+    (refuseIf (ltb (length s) (at + 48 + h .«data_length»)) fieldCut (at + 48)
+    (refuseIf (ltb (at + 48 + h .«data_length») (length s)) bytesLeft (at + 48 + h .«data_length»)
+    (then (readData h s at) (λ _ behind.
+    got (F.chunk h (place (at + 48) (h .«data_length»))) behind))))
+
+-- A chunk, to the end of s: first the whole header (6).
+unfoldable pub readChunk : List ℕ → ℕ → Outcome (Field Place)
+readChunk s at = refuseIf (ltb (length s) (at + 48)) fieldCut at (readHeaded (headerAt s at) s at)
+
+-- A field by its kind, and a row of fields in wire order.
+unfoldable mutual
+  pub readField : Kind → List ℕ → ℕ → Outcome (Field Place)
+  readField (unsigned n most) s at = readUnsigned n most s at
+  readField (signed n) s at = readSigned n s at
+  readField (string form nullable) s at = readString form nullable s at
+  readField (specification admitsNone) s at = readSpecification admitsNone s at
+  readField (list row) s at = readList (λ t from. readRow row t from) s at
+  readField chunk s at = readChunk s at
+
+  pub readRow : Row → List ℕ → ℕ → Outcome (List (Field Place))
+  readRow end s at = got [] at
+  readRow (kind · row) s at =
+      then (readField kind s at) (λ f next.
+      then (readRow row s next) (λ fs behind.
+      got (f ∷ fs) behind))
+
+-- A content by its row: the fields, then 11 if bytes are left.
+unfoldable pub readContent : Row → List ℕ → Outcome (List (Field Place))
+readContent row s =
+    then (readRow row s 0) (λ fs behind.
+    refuseIf (ltb behind (length s)) bytesLeft behind
+    (got fs behind))
+
+-- What reading a frame gives: its fields; or refusal 1 with the bytes needed; or another refusal's number, and the place
+-- that is at fault, counted from the frame's first byte.
+pub data Reading : Type 0 where
+  frame : Fields Place → Reading
+  short : ℕ → Reading
+  refusal : ℕ → ℕ → Reading
+
+-- The content starts at place 8 of the frame, and the places in it count from there.
+abbrev pub readingOf : ℕ → ℕ → Outcome (List (Field Place)) → Reading
+readingOf key version (got fs behind) = frame (record { key = key; version = version; content = map (overPlaces (further 8)) fs })
+readingOf key version (refused n at) = refusal n (8 + at)
+
+-- Behind Size: key (4), version (5), then the content.
+abbrev pub readDecided : Decision → List ℕ → Reading
+readDecided (layout key version) content = readingOf key version (readContent (rowOf key version) content)
+readDecided unlistedKey content = refusal unknownKey 4
+readDecided unlistedVersion content = refusal unknownVersion 6
+
+-- Above the frame limit, if there is one.
+abbrev pub overLimit : ℕ → ℕ → Bool
+overLimit limit size = not (eqb limit 0) && ltb limit size
+
+-- Size: above the limit (2), below 4 (3), whole frame present (1).
+abbrev pub readSized : List ℕ → ℕ → ℕ → Reading
+readSized s limit size =
+    cond (overLimit limit size) (refusal frameTooLarge 0)
+    (cond (ltb size 4) (refusal frameTooSmall 0)
+    (cond (ltb (length s) (size + 4)) (short (size + 4))
+    (readDecided (decide (bigEndian 2 s 4) (bigEndian 2 s 6)) (take (size - 4) (drop 8 s)))))
+
+-- A frame at the start of s under a frame limit; 0 is no limit. First: four bytes present (1).
+unfoldable pub readFrame : List ℕ → ℕ → Reading
+readFrame s limit = cond (ltb (length s) 4) (short 4) (readSized s limit (bigEndian 4 s 0))
