@@ -170,9 +170,9 @@ unfoldable mutual
 -- A content by its row: the fields, then 11 if bytes are left.
 unfoldable pub readContent : Row → List ℕ → Outcome (List (Field Place))
 readContent row s =
-    then (readRow row s 0) (λ fs behind.
-    refuseIf (ltb behind (length s)) bytesLeft behind
-    (got fs behind))
+    then (readRow row s 0) (λ fs last.
+    refuseIf (ltb last (length s)) bytesLeft last
+    (got fs last))
 
 -- What reading a frame gives: its fields; or refusal 1 with the bytes needed; or another refusal's number, and the place
 -- that is at fault, counted from the frame's first byte.
