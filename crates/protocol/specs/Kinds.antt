@@ -1,19 +1,17 @@
 -- The kinds of field, in the notation of 01 ("Numbers and text on the wire", "Frame and keys").
 use mathlib.Core.Bool.{Bool, true, false}
 use Prim.Native.Nat.{ℕ}
+use Rattle.protocol.specs.declared.kind.Element.{Element}
+use Rattle.protocol.specs.declared.kind.Element.the-variants.{Message, FilteredMessage, PublishingId, PublishingError, Property, Name, CommandVersions, Broker, StreamMetadata, Statistic, BrokerReference}
+use Rattle.protocol.specs.declared.kind.Form.{Form}
+use Rattle.protocol.specs.declared.kind.Form.the-variants.{Text, Reference, Bytes}
 
 infixr 50 _·_
--- A byte string's form: text T, a reference R (text of at most 256 bytes), or bytes B.
-pub data Form : Type 0 where
-  text : Form
-  reference : Form
-  bytes : Form
-
 -- The bytes of the length in front: int16 for text, int32 for bytes.
 abbrev pub lengthWidth : Form → ℕ
-lengthWidth text = 2
-lengthWidth reference = 2
-lengthWidth bytes = 4
+lengthWidth Text = 2
+lengthWidth Reference = 2
+lengthWidth Bytes = 4
 
 mutual
   pub data Kind : Type 0 where
@@ -62,22 +60,22 @@ abbrev pub rc : Kind
 rc = u16
 
 abbrev pub T : Kind
-T = string text false
+T = string Text false
 
 abbrev pub T? : Kind
-T? = string text true
+T? = string Text true
 
 abbrev pub R : Kind
-R = string reference false
+R = string Reference false
 
 abbrev pub R? : Kind
-R? = string reference true
+R? = string Reference true
 
 abbrev pub B : Kind
-B = string bytes false
+B = string Bytes false
 
 abbrev pub B? : Kind
-B? = string bytes true
+B? = string Bytes true
 
 -- Types 1 to 5; type 0 also, in 801a only.
 abbrev pub spec : Kind
@@ -85,3 +83,17 @@ spec = specification false
 
 abbrev pub spec₀ : Kind
 spec₀ = specification true
+
+-- The row of each kind of list element.
+abbrev pub elementRow : Element → Row
+elementRow Message = u64 · B · end
+elementRow FilteredMessage = u64 · T? · B · end
+elementRow PublishingId = u64 · end
+elementRow PublishingError = u64 · u16 · end
+elementRow Property = T · T · end
+elementRow Name = T · end
+elementRow CommandVersions = u16 · u16 · u16 · end
+elementRow Broker = u16 · T · u32 · end
+elementRow StreamMetadata = T · u16 · u16 · list (u16 · end) · end
+elementRow Statistic = T · i64 · end
+elementRow BrokerReference = u16 · end

@@ -1,6 +1,7 @@
 // The protocol's vocabulary: refusal numbers, response codes, keys and their layouts, and the typed frame.
 mod chunk;
 mod frame;
+mod kind;
 mod layout;
 mod offset;
 mod place;
@@ -10,6 +11,8 @@ mod response_code;
 pub use chunk::Chunk;
 pub use chunk::ChunkHeader;
 pub use frame::Frame;
+pub use kind::Element;
+pub use kind::Form;
 pub use layout::Layout;
 pub use layout::Picked;
 pub use layout::layout_of;

@@ -14,9 +14,11 @@ use Rattle.wire.specs.Utf8.{utf8}
 use Rattle.protocol.specs.Decision.{layout, decide}
 use Rattle.protocol.specs.Fields.{Field, Fields, number, integer, elements}
 use Rattle.protocol.specs.Fields as F
-use Rattle.protocol.specs.Kinds.{Form, text, reference, bytes, lengthWidth, Kind, unsigned, signed, string, specification, list, chunk, Row, end, _·_}
+use Rattle.protocol.specs.Kinds.{lengthWidth, Kind, unsigned, signed, string, specification, list, chunk, Row, end, _·_}
 use Rattle.protocol.specs.Table.{rowOf}
 use Rattle.protocol.specs.declared.chunk.ChunkHeader.{ChunkHeader}
+use Rattle.protocol.specs.declared.kind.Form.{Form}
+use Rattle.protocol.specs.declared.kind.Form.the-variants.{Text, Reference, Bytes}
 use Rattle.protocol.specs.declared.offset.OffsetSpecification.{OffsetSpecification}
 use Rattle.protocol.specs.declared.offset.OffsetSpecification.the-variants.{None, First, Last, Next, Offset, Timestamp}
 
@@ -94,9 +96,9 @@ Length n len = len < 256 ^ n / 2
 
 -- Text is UTF-8; a reference is text of at most 256 bytes.
 abbrev pub ValidBytes : Form → List ℕ → Type 0
-ValidBytes text b = utf8 b ≡ true
-ValidBytes reference b = (length b ≤ 256) × (utf8 b ≡ true)
-ValidBytes bytes b = Unit
+ValidBytes Text b = utf8 b ≡ true
+ValidBytes Reference b = (length b ≤ 256) × (utf8 b ≡ true)
+ValidBytes Bytes b = Unit
 
 -- Null is admitted only where it is written.
 abbrev pub ValidString : Form → Bool → Option (List ℕ) → Type 0

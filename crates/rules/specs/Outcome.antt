@@ -22,3 +22,8 @@ refuseIf false n at rest = rest
 unfoldable pub repeated : {A : Type 0} → (List ℕ → ℕ → Outcome A) → ℕ → List ℕ → ℕ → Outcome Unit
 repeated read zero s at = got tt at
 repeated read (suc n) s at = then (read s at) (λ a next. repeated read n s next)
+
+-- What was read, as something else.
+abbrev pub mapped : {A B : Type 0} → (A → B) → Outcome A → Outcome B
+mapped f (got a next) = got (f a) next
+mapped f (refused n at) = refused n at

@@ -1,6 +1,6 @@
 -- Reading (01 "Numbers and text on the wire", "Chunks", "Which check comes first"). `s` is the part that is read and
 -- `at` the place reached in it. The place of a refusal is where the field at fault begins.
-use mathlib.Core.Bool.{Bool, true, false, cond, not, _&&_, _||_}
+use mathlib.Core.Bool.{Bool, true, false, cond, not, _&&_}
 use mathlib.Core.List.{List, [], _∷_, map}
 use mathlib.Core.Option.{none, some}
 use Prim.Native.Nat.{ℕ, zero, suc, _+_, _-_}
@@ -13,10 +13,12 @@ use Rattle.wire.specs.Utf8.{utf8}
 use Rattle.protocol.specs.Decision.{Decision, layout, unlistedKey, unlistedVersion, decide}
 use Rattle.protocol.specs.Fields.{Field, Fields, number, integer, elements, place, overPlaces, further}
 use Rattle.protocol.specs.Fields as F
-use Rattle.protocol.specs.Kinds.{Form, text, reference, bytes, lengthWidth, Kind, unsigned, signed, string, specification, list, chunk, Row, end, _·_}
+use Rattle.protocol.specs.Kinds.{lengthWidth, Kind, unsigned, signed, string, specification, list, chunk, Row, end, _·_}
 use Rattle.protocol.specs.Refusals.{frameTooLarge, frameTooSmall, unknownKey, unknownVersion, fieldCut, badLength, notUtf8, referenceTooLong, valueNotAdmitted, bytesLeft}
 use Rattle.protocol.specs.Table.{rowOf}
 use Rattle.protocol.specs.declared.chunk.ChunkHeader.{ChunkHeader}
+use Rattle.protocol.specs.declared.kind.Form.{Form}
+use Rattle.protocol.specs.declared.kind.Form.the-variants.{Text, Reference, Bytes}
 use Rattle.protocol.specs.declared.offset.OffsetSpecification.the-variants.{None, First, Last, Next, Offset, Timestamp}
 use Rattle.protocol.specs.declared.place.Place.{Place}
 use Rattle.rules.specs.Outcome.{Outcome, got, refused, then, refuseIf, repeated}
@@ -38,18 +40,18 @@ readSigned n s at = then (readNumber n s at) (λ x next. got (integer (two's.sig
 
 -- A reference is at most 256 bytes.
 abbrev pub tooLong : Form → ℕ → Bool
-tooLong text n = false
-tooLong reference n = ltb 256 n
-tooLong bytes n = false
+tooLong Text n = false
+tooLong Reference n = ltb 256 n
+tooLong Bytes n = false
 
 -- Text and references are UTF-8.
 abbrev pub isText : Form → List ℕ → Bool
-isText text b = utf8 b
-isText reference b = utf8 b
-isText bytes b = true
+isText Text b = utf8 b
+isText Reference b = utf8 b
+isText Bytes b = true
 
 -- Behind a length: the length (7), the reference limit (9), the body (6), UTF-8 (8). Length -1 means null.
-abbrev pub readBody : Form → Bool → List ℕ → ℕ → ℤ → ℕ → Outcome (Field Place)
+unfoldable pub readBody : Form → Bool → List ℕ → ℕ → ℤ → ℕ → Outcome (Field Place)
 readBody form nullable s at (pos n) next =
     refuseIf (tooLong form n) referenceTooLong at
     (refuseIf (ltb (length s) (next + n)) fieldCut at
@@ -64,21 +66,30 @@ readString form nullable s at =
     then (readNumber (lengthWidth form) s at) (λ x next.
     readBody form nullable s at (two's.signed (lengthWidth form) x) next)
 
--- An offset specification: two bytes (6), type (10), and eight more bytes (6) for types 4 and 5, none otherwise.
-unfoldable pub readSpecification : Bool → List ℕ → ℕ → Outcome (Field Place)
-readSpecification admitsNone s at =
-    then (readNumber 2 s at) (λ type next.
-    refuseIf (ltb 5 type || (eqb type 0 && not admitsNone)) valueNotAdmitted at
-    (cond (eqb type 0) (got (F.offset None) next)
+-- The eight bytes of an offset or a timestamp (6).
+unfoldable pub readOffset : List ℕ → ℕ → Outcome (Field Place)
+readOffset s at = then (readNumber 8 s at) (λ x next. got (F.offset (Offset x)) next)
+
+unfoldable pub readTimestamp : List ℕ → ℕ → Outcome (Field Place)
+readTimestamp s at = then (readNumber 8 s at) (λ x next. got (F.offset (Timestamp (two's.signed 8 x))) next)
+
+-- Behind the type: types 1 to 5, and 0 where it is admitted (10); eight more bytes for 4 and 5, none otherwise.
+unfoldable pub readTyped : Bool → List ℕ → ℕ → ℕ → ℕ → Outcome (Field Place)
+readTyped admitsNone s at type next =
+    cond (eqb type 0) (refuseIf (not admitsNone) valueNotAdmitted at (got (F.offset None) next))
     (cond (eqb type 1) (got (F.offset First) next)
     (cond (eqb type 2) (got (F.offset Last) next)
     (cond (eqb type 3) (got (F.offset Next) next)
-    (then (readNumber 8 s next) (λ x behind.
-    cond (eqb type 4) (got (F.offset (Offset x)) behind)
-    (got (F.offset (Timestamp (two's.signed 8 x))) behind))))))))
+    (cond (eqb type 4) (readOffset s next)
+    (cond (eqb type 5) (readTimestamp s next)
+    (refused valueNotAdmitted at))))))
+
+-- An offset specification: two bytes (6), type (10), and the eight bytes of its number (6).
+unfoldable pub readSpecification : Bool → List ℕ → ℕ → Outcome (Field Place)
+readSpecification admitsNone s at = then (readNumber 2 s at) (λ type next. readTyped admitsNone s at type next)
 
 -- A list's elements, by its count: a negative one gives 7.
-abbrev pub readCounted : (List ℕ → ℕ → Outcome (List (Field Place))) → List ℕ → ℕ → ℤ → ℕ → Outcome (Field Place)
+unfoldable pub readCounted : (List ℕ → ℕ → Outcome (List (Field Place))) → List ℕ → ℕ → ℤ → ℕ → Outcome (Field Place)
 readCounted element s at (pos n) next =
     then (repeated element n s next) (λ _ behind.
     got (elements n (place next (behind - next))) behind)
@@ -128,7 +139,7 @@ readEntry s at =
 
 -- The data of a chunk that starts at a place. For type 0: records equals entries (10), that many entries, and nothing
 -- else (11). For types 1 and 2 it stays one unopened part.
-abbrev pub readData : ChunkHeader → List ℕ → ℕ → Outcome Unit
+unfoldable pub readData : ChunkHeader → List ℕ → ℕ → Outcome Unit
 readData h s at =
     cond (hasEntries (h .«chunk_type»))
     (refuseIf (not (eqb (h .records) (h .entries))) valueNotAdmitted (at + 4)
@@ -138,7 +149,7 @@ readData h s at =
     (got tt (length s))
 
 -- Behind a whole header: type (10), data present (6), data shorter than the rest (11), then the data.
-abbrev pub readHeaded : ChunkHeader → List ℕ → ℕ → Outcome (Field Place)
+unfoldable pub readHeaded : ChunkHeader → List ℕ → ℕ → Outcome (Field Place)
 readHeaded h s at =
     refuseIf (not (isChunkType (h .«chunk_type»))) valueNotAdmitted (at + 1)
     (refuseIf (ltb (length s) (at + 48 + h .«data_length»)) fieldCut (at + 48)
@@ -182,12 +193,12 @@ pub data Reading : Type 0 where
   refusal : ℕ → ℕ → Reading
 
 -- The content starts at place 8 of the frame, and the places in it count from there.
-abbrev pub readingOf : ℕ → ℕ → Outcome (List (Field Place)) → Reading
+unfoldable pub readingOf : ℕ → ℕ → Outcome (List (Field Place)) → Reading
 readingOf key version (got fs behind) = frame (record { key = key; version = version; content = map (overPlaces (further 8)) fs })
 readingOf key version (refused n at) = refusal n (8 + at)
 
 -- Behind Size: key (4), version (5), then the content.
-abbrev pub readDecided : Decision → List ℕ → Reading
+unfoldable pub readDecided : Decision → List ℕ → Reading
 readDecided (layout key version) content = readingOf key version (readContent (rowOf key version) content)
 readDecided unlistedKey content = refusal unknownKey 4
 readDecided unlistedVersion content = refusal unknownVersion 6
@@ -197,7 +208,7 @@ abbrev pub overLimit : ℕ → ℕ → Bool
 overLimit limit size = not (eqb limit 0) && ltb limit size
 
 -- Size: above the limit (2), below 4 (3), whole frame present (1).
-abbrev pub readSized : List ℕ → ℕ → ℕ → Reading
+unfoldable pub readSized : List ℕ → ℕ → ℕ → Reading
 readSized s limit size =
     cond (overLimit limit size) (refusal frameTooLarge 0)
     (cond (ltb size 4) (refusal frameTooSmall 0)

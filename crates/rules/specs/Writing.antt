@@ -12,10 +12,12 @@ use Rattle.wire.specs.Integers.{digits}
 use Rattle.wire.specs.Signed as two's
 use Rattle.protocol.specs.Decision.{Decision, layout, unlistedKey, unlistedVersion, decide}
 use Rattle.protocol.specs.Fields.{Field, Fields, place, bytesAt}
-use Rattle.protocol.specs.Kinds.{Form, text, reference, bytes, lengthWidth, Kind, unsigned, signed, string, specification, list, chunk, Row, end, _·_}
+use Rattle.protocol.specs.Kinds.{lengthWidth, Kind, unsigned, signed, string, specification, list, chunk, Row, end, _·_}
 use Rattle.protocol.specs.Refusals.{frameTooLarge, unknownKey, unknownVersion, fieldCut, badLength, notUtf8, referenceTooLong, valueNotAdmitted, bytesLeft, noRoom}
 use Rattle.protocol.specs.Table.{rowOf}
 use Rattle.protocol.specs.declared.chunk.ChunkHeader.{ChunkHeader}
+use Rattle.protocol.specs.declared.kind.Form.{Form}
+use Rattle.protocol.specs.declared.kind.Form.the-variants.{Text, Reference, Bytes}
 use Rattle.protocol.specs.declared.offset.OffsetSpecification.{OffsetSpecification}
 use Rattle.protocol.specs.declared.offset.OffsetSpecification.the-variants.{None, First, Last, Next, Offset, Timestamp}
 use Rattle.protocol.specs.declared.place.Place.{Place}

@@ -8,15 +8,12 @@ use native.Mathlib.Omega.{arith}
 use lib.Dec.{ltb}
 use lib.IntN.{ℤ, pos, negsuc}
 use borrow.Author.Tests.{lt-ltb, le-ltb, ltb-true, ltb-false}
+use Rattle.wire.proofs.Widths.{positive}
 use Rattle.wire.specs.Signed.{signed, unsigned, Signed, SignedLaw}
 
 -- Half of the range, for a width of at least a byte, is half of it exactly.
 halves : (n : ℕ) → 256 ^ suc n ≡ 256 ^ suc n / 2 * 2
 halves n = rw pow-suc (omega arith)
-
-positive : (n : ℕ) → 0 < 256 ^ n
-positive zero = omega arith
-positive (suc n) = rw pow-suc (omega (arith, positive n))
 
 pub below-half : (n x : ℕ) → x < 256 ^ n / 2 → signed n x ≡ pos x
 unfolding signed
@@ -56,3 +53,15 @@ module _ (n : ℕ) where
 pub twos-complement : (n : ℕ) → SignedLaw (suc n)
 twos-complement n =
     record { signed-unsigned = signed-unsigned n; unsigned-signed = unsigned-signed n; bits = bits n; fits = fits n }
+
+-- What a length's bits say of it: all ones are -1, and above half of the range is what is below -1.
+module _ (n x : ℕ) where
+  pub minus-one : x < 256 ^ suc n → 256 ^ suc n ≤ suc x → signed (suc n) x ≡ negsuc 0
+  minus-one h l =
+      let e : 256 ^ suc n - 1 - x ≡ 0 = omega arith in
+      rw (above-half (suc n) x (omega (arith, halves n)), e)
+
+  pub below-minus-one : 256 ^ suc n / 2 ≤ x → suc x < 256 ^ suc n → (k : ℕ) × (signed (suc n) x ≡ negsuc (suc k))
+  below-minus-one h l =
+      let e : 256 ^ suc n - 1 - x ≡ suc (256 ^ suc n - 2 - x) = omega arith in
+      (256 ^ suc n - 2 - x, rw (above-half (suc n) x h, e))

@@ -1,12 +1,14 @@
 -- The law of every width, by induction over it: one byte more is one digit more, to the base 256. Assumes nothing.
 use mathlib.Core.Path.{_≡_, refl}
+use mathlib.Core.Bool.{Bool, true, false}
 use mathlib.Core.List.{List, [], _∷_, _++_, append-assoc}
 use Prim.Native.Nat.{ℕ, zero, suc, _+_, _*_, _/_, _%_, _<_, _^_, _≤_}
 use native.Mathlib.Nat.{pow-suc, pow-zero, div-one, div-add-mod', div-div-eq-div-mul, mul-comm}
 use native.Mathlib.Omega.{arith}
 use lib.Arith.{digits-div, digits-mod}
 use lib.ListN.{length, getD, take, drop, length-append, length-drop}
-use borrow.Author.Tests.{le-leb, lt-leb}
+use borrow.Author.Tests.{le-leb, lt-leb, leb-true, leb-false}
+use lib.Dec.{leb}
 use lib.Seq.{getD-append-add, take-suc, getD-drop, getD-at}
 use Rattle.wire.specs.Integers.{Bytes, bigEndian, digits, numberAt, Law}
 use Rattle.wire.specs.declared.integers.Number.the-variants.{Value, Cut}
@@ -20,6 +22,10 @@ range : (n : ℕ) (s : List ℕ) (at : ℕ) → Bytes s → bigEndian n s at < 2
 unfolding bigEndian Bytes
 range zero s at b = omega arith
 range (suc n) s at b = rw pow-suc (omega (arith, range n s at b, b (at + n)))
+
+pub positive : (n : ℕ) → 0 < 256 ^ n
+positive zero = omega arith
+positive (suc n) = rw pow-suc (omega (arith, positive n))
 
 below : (n x : ℕ) → x < 256 ^ suc n → x / 256 < 256 ^ n
 below n x h = let k : x < 256 ^ n * 256 = rw pow-suc at h in omega arith
@@ -78,3 +84,18 @@ module _ (n : ℕ) (s : List ℕ) (at : ℕ) where
   pub cut : length s < at + n → numberAt n s at ≡ Cut
   unfolding numberAt
   cut h = rw (lt-leb _ _ h)
+
+  -- What the answer tells.
+  pub is-there : (v : ℕ) → Value v ≡ numberAt n s at → (at + n ≤ length s) × (v ≡ bigEndian n s at)
+  is-there v e = by (leb (at + n) (length s)) refl
+    where
+      by : (t : Bool) → leb (at + n) (length s) ≡ t → (at + n ≤ length s) × (v ≡ bigEndian n s at)
+      by true f = let h = leb-true _ _ f in let g = there h in (h, cc)
+      by false f = let g = cut (leb-false _ _ f) in absurd (let z : _≡_ {A = ℕ} 0 1 = cc in omega arith)
+
+  pub is-cut : Cut ≡ numberAt n s at → length s < at + n
+  is-cut e = by (leb (at + n) (length s)) refl
+    where
+      by : (t : Bool) → leb (at + n) (length s) ≡ t → length s < at + n
+      by true f = let g = there (leb-true _ _ f) in absurd (let z : _≡_ {A = ℕ} 0 1 = cc in omega arith)
+      by false f = leb-false _ _ f

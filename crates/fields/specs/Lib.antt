@@ -1,0 +1,2 @@
+-- How the readers' cursor goes with the definitions of reading.
+pub mod Cursor

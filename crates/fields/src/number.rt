@@ -1,0 +1,142 @@
+// Numbers: u8, u16, u32, u64, i64, and Active.
+ghost use mathlib.Core.Path.{_≡_};
+ghost use Rattle.protocol.specs.Fields.{number, integer};
+ghost use Rattle.protocol.specs.Frames.{flagField};
+ghost use Rattle.protocol.specs.Kinds.{u8, u16, u32, u64, i64, active};
+ghost use Rattle.rules.specs.Reading.{readNumber};
+ghost use Rattle.wire.specs.Integers.{widthOf};
+ghost use Rattle.fields.specs.Cursor.{from, landed, foundOr, Reads};
+use crate::cursor::Cursor;
+use protocol::refusal;
+use wire::Number;
+use wire::Width;
+
+pub struct ReadNumber {
+    pub value: u64,
+    pub next: Cursor,
+}
+
+pub struct ReadU8 {
+    pub value: u8,
+    pub next: Cursor,
+}
+
+pub struct ReadU16 {
+    pub value: u16,
+    pub next: Cursor,
+}
+
+pub struct ReadU32 {
+    pub value: u32,
+    pub next: Cursor,
+}
+
+pub struct ReadU64 {
+    pub value: u64,
+    pub next: Cursor,
+}
+
+pub struct ReadI64 {
+    pub value: i64,
+    pub next: Cursor,
+}
+
+pub struct ReadFlag {
+    pub value: bool,
+    pub next: Cursor,
+}
+
+// A number of a width (6).
+pub fn number_of(s: &[u8], c: Cursor, width: Width) -> ReadNumber
+    ensures { λ r. ⌜ (r .value ≡ foundOr 0 (from (readNumber (widthOf width)) (now (s .entry)) c)) × (r .next ≡ landed (c .base) (from (readNumber (widthOf width)) (now (s .entry)) c)) ⌝ }
+{
+    let at = c.at;
+    if c.refused != 0 {
+        return ReadNumber { value: 0, next: c };
+    }
+    let n = width.bytes();
+    match wire::number_at(s, at, width) {
+        Number::Value(v) => ReadNumber {
+            value: v,
+            next: c.to(at + n),
+        },
+        Number::Cut => ReadNumber {
+            value: 0,
+            next: c.refuse(refusal::FIELD_CUT),
+        },
+    }
+}
+
+pub fn u8_field(s: &[u8], c: Cursor) -> ReadU8
+    ensures { λ r. ⌜ Reads u8 (now (s .entry)) c (number (r .value)) (r .next) ⌝ }
+{
+    let r = number_of(s, c, Width::One);
+    let next = r.next;
+    ReadU8 {
+        value: (r.value % 0x100) as u8,
+        next: next,
+    }
+}
+
+pub fn u16_field(s: &[u8], c: Cursor) -> ReadU16
+    ensures { λ r. ⌜ Reads u16 (now (s .entry)) c (number (r .value)) (r .next) ⌝ }
+{
+    let r = number_of(s, c, Width::Two);
+    let next = r.next;
+    ReadU16 {
+        value: (r.value % 0x1_0000) as u16,
+        next: next,
+    }
+}
+
+pub fn u32_field(s: &[u8], c: Cursor) -> ReadU32
+    ensures { λ r. ⌜ Reads u32 (now (s .entry)) c (number (r .value)) (r .next) ⌝ }
+{
+    let r = number_of(s, c, Width::Four);
+    let next = r.next;
+    ReadU32 {
+        value: (r.value % 0x1_0000_0000) as u32,
+        next: next,
+    }
+}
+
+pub fn u64_field(s: &[u8], c: Cursor) -> ReadU64
+    ensures { λ r. ⌜ Reads u64 (now (s .entry)) c (number (r .value)) (r .next) ⌝ }
+{
+    let r = number_of(s, c, Width::Eight);
+    let next = r.next;
+    ReadU64 {
+        value: r.value,
+        next: next,
+    }
+}
+
+pub fn i64_field(s: &[u8], c: Cursor) -> ReadI64
+    ensures { λ r. ⌜ Reads i64 (now (s .entry)) c (integer (r .value)) (r .next) ⌝ }
+{
+    let r = number_of(s, c, Width::Eight);
+    let next = r.next;
+    ReadI64 {
+        value: wire::signed64(r.value),
+        next: next,
+    }
+}
+
+// The byte (6), then its value (10).
+pub fn active(s: &[u8], c: Cursor) -> ReadFlag
+    ensures { λ r. ⌜ Reads active (now (s .entry)) c (flagField (r .value)) (r .next) ⌝ }
+{
+    let r = number_of(s, c, Width::One);
+    let next = r.next;
+    let value = r.value;
+    if 1 < value {
+        return ReadFlag {
+            value: false,
+            next: c.refuse(refusal::VALUE_NOT_ADMITTED),
+        };
+    }
+    ReadFlag {
+        value: value == 1,
+        next: next,
+    }
+}

@@ -1,0 +1,170 @@
+// Byte strings: text T, references R and bytes B, and those that may be null.
+ghost use mathlib.Core.Path.{_≡_};
+ghost use mathlib.Core.Bool.{true, false};
+ghost use Prim.Native.Nat.{_-_, _/_, _^_};
+ghost use lib.IntN.{pos};
+ghost use Rattle.protocol.specs.Frames.{nullableField, placeField};
+ghost use Rattle.protocol.specs.Kinds.{lengthWidth};
+ghost use Rattle.protocol.specs.Kinds as K;
+ghost use Rattle.rules.specs.Reading.{readString, readBody, tooLong, isText};
+ghost use Rattle.wire.specs.Integers.{widthOf};
+ghost use Rattle.fields.specs.Cursor.{from, StringRead, Reads};
+use crate::cursor::Cursor;
+use crate::number::number_of;
+use protocol::Form;
+use protocol::NullablePlace;
+use protocol::Place;
+use protocol::refusal;
+use wire::Width;
+
+pub struct ReadPlace {
+    pub value: Place,
+    pub next: Cursor,
+}
+
+pub struct ReadNullable {
+    pub value: NullablePlace,
+    pub next: Cursor,
+}
+
+// T?, R? and B?.
+pub fn nullable_string(s: &[u8], c: Cursor, form: Form) -> ReadNullable
+    ensures { λ r. ⌜ Reads (K.string form true) (now (s .entry)) c (nullableField (r .value)) (r .next) ⌝ }
+{
+    read_string(s, c, form, true)
+}
+
+// T, R and B.
+pub fn string(s: &[u8], c: Cursor, form: Form) -> ReadPlace
+    ensures { λ r. ⌜ Reads (K.string form false) (now (s .entry)) c (placeField (r .value)) (r .next) ⌝ }
+{
+    let r = read_string(s, c, form, false);
+    let next = r.next;
+    let value = r.value;
+    match value {
+        NullablePlace::Null => ReadPlace {
+            value: Place { at: 0, len: 0 },
+            next: next,
+        },
+        NullablePlace::At(place) => ReadPlace {
+            value: place,
+            next: next,
+        },
+    }
+}
+
+// The bytes of the length (6), the length (7), then what it is the length of.
+fn read_string(s: &[u8], c: Cursor, form: Form, nullable: bool) -> ReadNullable
+    ensures { λ r. ⌜ StringRead (c .base) (from (readString form nullable) (now (s .entry)) c) (nullableField (r .value)) (r .next) ⌝ }
+{
+    let length = number_of(s, c, length_width(form));
+    let behind = length.next;
+    let n = length.value;
+    if behind.refused != 0 {
+        return ReadNullable {
+            value: NullablePlace::Null,
+            next: behind,
+        };
+    }
+    let most = largest(form);
+    if n <= most {
+        let at = behind.at;
+        return body(s, c, form, at, n as usize);
+    }
+    if n <= most * 2 {
+        return ReadNullable {
+            value: NullablePlace::Null,
+            next: c.refuse(refusal::BAD_LENGTH),
+        };
+    }
+    if nullable {
+        return ReadNullable {
+            value: NullablePlace::Null,
+            next: behind,
+        };
+    }
+    ReadNullable {
+        value: NullablePlace::Null,
+        next: c.refuse(refusal::BAD_LENGTH),
+    }
+}
+
+// Behind the length: the reference limit (9), the body (6), UTF-8 (8).
+fn body(s: &[u8], c: Cursor, form: Form, at: usize, len: usize) -> ReadNullable
+    ensures { λ r. ⌜ StringRead (c .base) (readBody form false (now (s .entry)) (c .at) (pos len) at) (nullableField (r .value)) (r .next) ⌝ }
+{
+    if too_long(form, len) {
+        return ReadNullable {
+            value: NullablePlace::Null,
+            next: c.refuse(refusal::REFERENCE_TOO_LONG),
+        };
+    }
+    if s.len() < at {
+        return ReadNullable {
+            value: NullablePlace::Null,
+            next: c.refuse(refusal::FIELD_CUT),
+        };
+    }
+    if s.len() - at < len {
+        return ReadNullable {
+            value: NullablePlace::Null,
+            next: c.refuse(refusal::FIELD_CUT),
+        };
+    }
+    let end = at + len;
+    if !is_text(form, &s[at..end]) {
+        return ReadNullable {
+            value: NullablePlace::Null,
+            next: c.refuse(refusal::NOT_UTF8),
+        };
+    }
+    let place = Place {
+        at: c.base as usize + at,
+        len: len,
+    };
+    ReadNullable {
+        value: NullablePlace::At(place),
+        next: c.to(end),
+    }
+}
+
+fn length_width(form: Form) -> Width
+    ensures { λ r. ⌜ widthOf r ≡ lengthWidth form ⌝ }
+{
+    match form {
+        Form::Text => Width::Two,
+        Form::Reference => Width::Two,
+        Form::Bytes => Width::Four,
+    }
+}
+
+// The largest length that is not negative. Above it come the negative ones, of which -1 is the last.
+fn largest(form: Form) -> u64
+    ensures { λ r. ⌜ r ≡ 256 ^ lengthWidth form / 2 - 1 ⌝ }
+{
+    match form {
+        Form::Text => 0x7fff,
+        Form::Reference => 0x7fff,
+        Form::Bytes => 0x7fff_ffff,
+    }
+}
+
+fn too_long(form: Form, n: usize) -> bool
+    ensures { λ r. ⌜ r ≡ tooLong form n ⌝ }
+{
+    match form {
+        Form::Text => false,
+        Form::Reference => 256 < n,
+        Form::Bytes => false,
+    }
+}
+
+fn is_text(form: Form, b: &[u8]) -> bool
+    ensures { λ r. ⌜ r ≡ isText form (now (b .entry)) ⌝ }
+{
+    match form {
+        Form::Text => wire::is_utf8(b),
+        Form::Reference => wire::is_utf8(b),
+        Form::Bytes => true,
+    }
+}
