@@ -3,3 +3,7 @@ pub mod Landing
 pub mod NumberFields
 pub mod StringFields
 pub mod OffsetFields
+pub mod Chains
+pub mod Loops
+pub mod FixedWidth
+pub mod ListFields

@@ -1,2 +1,3 @@
 -- How the readers' cursor goes with the definitions of reading.
 pub mod Cursor
+pub mod Fixed

@@ -123,7 +123,7 @@ pub fn i64_field(s: &[u8], c: Cursor) -> ReadI64
 }
 
 // The byte (6), then its value (10).
-pub fn active(s: &[u8], c: Cursor) -> ReadFlag
+pub fn active_field(s: &[u8], c: Cursor) -> ReadFlag
     ensures { λ r. ⌜ Reads active (now (s .entry)) c (flagField (r .value)) (r .next) ⌝ }
 {
     let r = number_of(s, c, Width::One);

@@ -19,7 +19,7 @@ pub struct ReadOffset {
 }
 
 // Two bytes (6), type (10), and eight more bytes for types 4 and 5 (6). Type 0 is admitted in ConsumerUpdate's response only.
-pub fn offset_specification(s: &[u8], c: Cursor, admits_none: bool) -> ReadOffset
+pub fn offset_field(s: &[u8], c: Cursor, admits_none: bool) -> ReadOffset
     ensures { λ r. ⌜ Reads (specification «admits_none») (now (s .entry)) c (F.offset (r .value)) (r .next) ⌝ }
 {
     let kind = number_of(s, c, Width::Two);

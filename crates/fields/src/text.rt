@@ -28,14 +28,14 @@ pub struct ReadNullable {
 }
 
 // T?, R? and B?.
-pub fn nullable_string(s: &[u8], c: Cursor, form: Form) -> ReadNullable
+pub fn nullable_field(s: &[u8], c: Cursor, form: Form) -> ReadNullable
     ensures { λ r. ⌜ Reads (K.string form true) (now (s .entry)) c (nullableField (r .value)) (r .next) ⌝ }
 {
     read_string(s, c, form, true)
 }
 
 // T, R and B.
-pub fn string(s: &[u8], c: Cursor, form: Form) -> ReadPlace
+pub fn string_field(s: &[u8], c: Cursor, form: Form) -> ReadPlace
     ensures { λ r. ⌜ Reads (K.string form false) (now (s .entry)) c (placeField (r .value)) (r .next) ⌝ }
 {
     let r = read_string(s, c, form, false);

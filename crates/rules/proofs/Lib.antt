@@ -1,3 +1,5 @@
 -- What is proved of the rules.
 pub mod MarkedCases
 pub mod Numbers
+pub mod RefusalNumbers
+pub mod Forward

@@ -88,18 +88,21 @@ readTyped admitsNone s at type next =
 unfoldable pub readSpecification : Bool → List ℕ → ℕ → Outcome (Field Place)
 readSpecification admitsNone s at = then (readNumber 2 s at) (λ type next. readTyped admitsNone s at type next)
 
--- A list's elements, by its count: a negative one gives 7.
-unfoldable pub readCounted : (List ℕ → ℕ → Outcome (List (Field Place))) → List ℕ → ℕ → ℤ → ℕ → Outcome (Field Place)
-readCounted element s at (pos n) next =
-    then (repeated element n s next) (λ _ behind.
-    got (elements n (place next (behind - next))) behind)
-readCounted element s at (negsuc k) next = refused badLength at
+-- A list's count is never negative (7).
+abbrev pub countOf : ℕ → ℤ → ℕ → Outcome ℕ
+countOf at (pos n) next = got n next
+countOf at (negsuc k) next = refused badLength at
 
--- A list: the bytes of the count (6), the count (7), then each element in turn.
+-- The count: four bytes (6), then its sign (7).
+unfoldable pub readCount : List ℕ → ℕ → Outcome ℕ
+readCount s at = then (readNumber 4 s at) (λ x next. countOf at (two's.signed 4 x) next)
+
+-- A list: the count, then each element in turn.
 unfoldable pub readList : (List ℕ → ℕ → Outcome (List (Field Place))) → List ℕ → ℕ → Outcome (Field Place)
 readList element s at =
-    then (readNumber 4 s at) (λ x next.
-    readCounted element s at (two's.signed 4 x) next)
+    then (readCount s at) (λ n next.
+    then (repeated element n s next) (λ _ behind.
+    got (elements n (place next (behind - next))) behind))
 
 -- A chunk's header, where its 48 bytes are there.
 abbrev pub headerAt : List ℕ → ℕ → ChunkHeader

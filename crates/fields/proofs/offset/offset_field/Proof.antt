@@ -3,12 +3,12 @@ use Rattle.fields.proofs.OffsetFields.{type-cut, type-none, type-plain,
 use Rattle.protocol.specs.declared.offset.OffsetSpecification.the-variants.{First, Last, Next}
 use Rattle.rules.specs.Reading.{readTyped}
 use borrow.Author.Needs.{needs}
-use Rattle.fields.proofs.offset.offset_specification.Statement.{statement}
-use Rattle.fields.proofs.offset.offset_specification.Tie as tie
+use Rattle.fields.proofs.offset.offset_field.Statement.{statement}
+use Rattle.fields.proofs.offset.offset_field.Tie as tie
 
-pub offset-specification-spec : {M : Type 1} → statement M
+pub offset-field-spec : {M : Type 1} → statement M
 unfolding readTyped
-offset-specification-spec =
+offset-field-spec =
     tie.close
     (tie.spec
     (λ c κs. search needs)

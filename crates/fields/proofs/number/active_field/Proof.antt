@@ -1,11 +1,11 @@
 -- A number above 1 is refused; 0 and 1 are the flag.
 use borrow.Author.Needs.{needs}
 use Rattle.fields.proofs.NumberFields.{active-refused, active-reads}
-use Rattle.fields.proofs.number.active.Statement.{statement}
-use Rattle.fields.proofs.number.active.Tie as tie
+use Rattle.fields.proofs.number.active_field.Statement.{statement}
+use Rattle.fields.proofs.number.active_field.Tie as tie
 
-pub active-spec : {M : Type 1} → statement M
-active-spec =
+pub active-field-spec : {M : Type 1} → statement M
+active-field-spec =
     tie.close
     (tie.spec
     (λ c κs. search needs)

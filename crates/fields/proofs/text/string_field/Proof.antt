@@ -1,11 +1,11 @@
 -- Null is not admitted, so without a place the answer is a refusal.
 use Rattle.fields.proofs.StringFields.{string-missing, string-found}
 use borrow.Author.Needs.{needs}
-use Rattle.fields.proofs.text.string.Statement.{statement}
-use Rattle.fields.proofs.text.string.Tie as tie
+use Rattle.fields.proofs.text.string_field.Statement.{statement}
+use Rattle.fields.proofs.text.string_field.Tie as tie
 
-pub string-spec : {M : Type 1} → statement M
-string-spec =
+pub string-field-spec : {M : Type 1} → statement M
+string-field-spec =
     tie.close
     (tie.spec
     (λ c κs. search needs)
