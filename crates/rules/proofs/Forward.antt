@@ -13,12 +13,11 @@ use Rattle.wire.specs.Integers.{bigEndian}
 use Rattle.wire.specs.Signed as two's
 use Rattle.protocol.specs.Fields.{Field, place}
 use Rattle.protocol.specs.Kinds.{lengthWidth, Kind, unsigned, signed, string, specification, list, chunk, Row, end, _·_}
-use Rattle.protocol.specs.declared.chunk.ChunkHeader.{ChunkHeader}
 use Rattle.protocol.specs.declared.kind.Form.{Form}
 use Rattle.protocol.specs.declared.place.Place.{Place}
 use Rattle.rules.proofs.Numbers.{number-cases}
 use Rattle.rules.specs.Outcome.{Outcome, got, refused, then, refuseIf, repeated}
-use Rattle.rules.specs.Reading.{readNumber, readUnsigned, readSigned, readBody, readString, readOffset, readTimestamp, readTyped, readSpecification, countOf, readCount, readList, headerAt, hasEntries, isChunkType, tooLong, isText, readEntry, readData, readHeaded, readChunk, readField, readRow}
+use Rattle.rules.specs.Reading.{readNumber, readUnsigned, readSigned, readBody, readString, readOffset, readTimestamp, readTyped, readSpecification, countOf, readCount, readList, headerAt, hasEntries, isChunkType, tooLong, isText, readEntry, readEntries, readData, readChunk, readField, readRow}
 
 module _ (s : List ℕ) where
   abbrev pub Forward : {A : Type 0} → ℕ → Outcome A → Type 0
@@ -109,25 +108,29 @@ module _ (s : List ℕ) where
       check next (ltb (length s) (next + x)) _ at _ (λ e.
       let l = ltb-false _ _ e in (omega arith, λ k. l))))
 
-  forward-data : (h : ChunkHeader) (at : ℕ) → at + 48 ≤ length s → Forward at (readData h s at)
-  unfolding readData
-  forward-data h at l =
-      choice at (hasEntries (h .«chunk_type»)) _ _
-      (check at (not (eqb (h .records) (h .entries))) _ (at + 4) _ (λ _. from-48 (repeated readEntry (h .entries) s (at + 48)) (forward-repeated readEntry forward-entry (h .entries) (at + 48))))
-      (omega arith, λ k. omega arith)
+  forward-entries : (entries records at : ℕ) → at + 48 ≤ length s → Forward at (readEntries entries records s at)
+  unfolding readEntries
+  forward-entries entries records at l =
+      check at (not (eqb records entries)) _ (at + 4) _ (λ _.
+      from-48 (repeated readEntry entries s (at + 48)) (forward-repeated readEntry forward-entry entries (at + 48)))
     where
       from-48 : (o : Outcome Unit) → Forward (at + 48) o → Forward at (then o (λ _ last. refuseIf (ltb last (length s)) 11 last (got (tt {0}) last)))
       from-48 (got a last) k = check at (ltb last (length s)) 11 last (got tt last) (λ _. (omega (arith, k .0), λ j. k .1 l))
       from-48 (refused n p) k = tt
 
+  forward-data : (type : ℤ) (entries records len at : ℕ) → at + 48 ≤ length s → Forward at (readData type entries records len s at)
+  unfolding readData
+  forward-data type entries records len at l =
+      check at (not (isChunkType type)) _ (at + 1) _ (λ _.
+      check at (ltb (length s) (at + 48 + len)) _ (at + 48) _ (λ _.
+      check at (ltb (at + 48 + len) (length s)) _ (at + 48 + len) _ (λ _.
+      choice at (hasEntries type) _ _ (forward-entries entries records at l) (omega arith, λ k. omega arith))))
+
   forward-chunk : (at : ℕ) → Forward at (readChunk s at)
-  unfolding readChunk readHeaded
+  unfolding readChunk
   forward-chunk at =
       check at (ltb (length s) (at + 48)) _ at _ (λ e.
-      check at (not (isChunkType (headerAt s at .«chunk_type»))) _ (at + 1) _ (λ _.
-      check at (ltb (length s) (at + 48 + headerAt s at .«data_length»)) _ (at + 48) _ (λ _.
-      check at (ltb (at + 48 + headerAt s at .«data_length») (length s)) _ (at + 48 + headerAt s at .«data_length») _ (λ _.
-      both at (readData (headerAt s at) s at) _ (forward-data (headerAt s at) at (ltb-false _ _ e)) (λ a last. stay last)))))
+      both at (readData (headerAt s at .«chunk_type») (headerAt s at .entries) (headerAt s at .records) (headerAt s at .«data_length») s at) _ (forward-data (headerAt s at .«chunk_type») (headerAt s at .entries) (headerAt s at .records) (headerAt s at .«data_length») at (ltb-false _ _ e)) (λ a last. stay last))
 
 mutual
   unfolding readField readRow readUnsigned readSigned readString readSpecification

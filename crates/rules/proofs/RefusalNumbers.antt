@@ -12,11 +12,10 @@ use Rattle.wire.specs.Integers.{bigEndian}
 use Rattle.wire.specs.Signed as two's
 use Rattle.protocol.specs.Fields.{Field}
 use Rattle.protocol.specs.Kinds.{lengthWidth, Kind, unsigned, signed, string, specification, list, chunk, Row, end, _·_}
-use Rattle.protocol.specs.declared.chunk.ChunkHeader.{ChunkHeader}
 use Rattle.protocol.specs.declared.kind.Form.{Form}
 use Rattle.protocol.specs.declared.place.Place.{Place}
 use Rattle.rules.specs.Outcome.{Outcome, got, refused, then, refuseIf, repeated}
-use Rattle.rules.specs.Reading.{readNumber, readUnsigned, readSigned, readBody, readString, readOffset, readTimestamp, readTyped, readSpecification, countOf, readCount, readList, headerAt, hasEntries, isChunkType, tooLong, isText, readEntry, readData, readHeaded, readChunk, readField, readRow}
+use Rattle.rules.specs.Reading.{readNumber, readUnsigned, readSigned, readBody, readString, readOffset, readTimestamp, readTyped, readSpecification, countOf, readCount, readList, headerAt, hasEntries, isChunkType, tooLong, isText, readEntry, readEntries, readData, readChunk, readField, readRow}
 
 abbrev pub Numbered : {A : Type 0} → Outcome A → Type 0
 Numbered (got a next) = Unit
@@ -115,23 +114,26 @@ numbered-entry s at =
     both (readNumber 4 s at) _ (numbered-number 4 s at)
     (λ x next. check (leb 0x8000_0000 x) 9 at _ (check (ltb (length s) (next + x)) 5 at _ tt))
 
-numbered-data : (h : ChunkHeader) (s : List ℕ) (at : ℕ) → Numbered (readData h s at)
+numbered-entries : (entries records : ℕ) (s : List ℕ) (at : ℕ) → Numbered (readEntries entries records s at)
+unfolding readEntries
+numbered-entries entries records s at =
+    check (not (eqb records entries)) 9 (at + 4) _
+    (both (repeated readEntry entries s (at + 48)) _ (numbered-repeated readEntry numbered-entry entries s (at + 48))
+    (λ a behind. check (ltb behind (length s)) 10 behind _ tt))
+
+pub numbered-data : (type : ℤ) (entries records len : ℕ) (s : List ℕ) (at : ℕ) → Numbered (readData type entries records len s at)
 unfolding readData
-numbered-data h s at =
-    choice (hasEntries (h .«chunk_type»)) _ _
-    (check (not (eqb (h .records) (h .entries))) 9 (at + 4) _
-    (both (repeated readEntry (h .entries) s (at + 48)) _ (numbered-repeated readEntry numbered-entry (h .entries) s (at + 48))
-    (λ a behind. check (ltb behind (length s)) 10 behind _ tt)))
-    tt
+numbered-data type entries records len s at =
+    check (not (isChunkType type)) 9 (at + 1) _
+    (check (ltb (length s) (at + 48 + len)) 5 (at + 48) _
+    (check (ltb (at + 48 + len) (length s)) 10 (at + 48 + len) _
+    (choice (hasEntries type) _ _ (numbered-entries entries records s at) tt)))
 
 numbered-chunk : (s : List ℕ) (at : ℕ) → Numbered (readChunk s at)
-unfolding readChunk readHeaded
+unfolding readChunk
 numbered-chunk s at =
     check (ltb (length s) (at + 48)) 5 at _
-    (check (not (isChunkType (headerAt s at .«chunk_type»))) 9 (at + 1) _
-    (check (ltb (length s) (at + 48 + headerAt s at .«data_length»)) 5 (at + 48) _
-    (check (ltb (at + 48 + headerAt s at .«data_length») (length s)) 10 (at + 48 + headerAt s at .«data_length») _
-    (both (readData (headerAt s at) s at) _ (numbered-data (headerAt s at) s at) (λ a behind. tt)))))
+    (both (readData (headerAt s at .«chunk_type») (headerAt s at .entries) (headerAt s at .records) (headerAt s at .«data_length») s at) _ (numbered-data (headerAt s at .«chunk_type») (headerAt s at .entries) (headerAt s at .records) (headerAt s at .«data_length») s at) (λ a behind. tt))
 
 mutual
   unfolding readField readRow

@@ -140,27 +140,30 @@ readEntry s at =
     (refuseIf (ltb (length s) (next + x)) fieldCut at
     (got (place next x) (next + x))))
 
--- The data of a chunk that starts at a place. For type 0: records equals entries (10), that many entries, and nothing
--- else (11). For types 1 and 2 it stays one unopened part.
-unfoldable pub readData : ChunkHeader → List ℕ → ℕ → Outcome Unit
-readData h s at =
-    cond (hasEntries (h .«chunk_type»))
-    (refuseIf (not (eqb (h .records) (h .entries))) valueNotAdmitted (at + 4)
-    (then (repeated readEntry (h .entries) s (at + 48)) (λ _ behind.
+-- The entries of a chunk of type 0 that starts at a place: records equals entries (10), that many entries, and nothing
+-- else (11).
+unfoldable pub readEntries : ℕ → ℕ → List ℕ → ℕ → Outcome Unit
+readEntries entries records s at =
+    refuseIf (not (eqb records entries)) valueNotAdmitted (at + 4)
+    (then (repeated readEntry entries s (at + 48)) (λ _ behind.
     refuseIf (ltb behind (length s)) bytesLeft behind
-    (got tt behind))))
-    (got tt (length s))
+    (got tt behind)))
 
--- Behind a whole header: type (10), data present (6), data shorter than the rest (11), then the data.
-unfoldable pub readHeaded : ChunkHeader → List ℕ → ℕ → Outcome (Field Place)
+-- Behind a whole header: type (10), data present (6), data shorter than the rest (11), and for type 0 the entries.
+-- For types 1 and 2 the data stays one unopened part.
+unfoldable pub readData : ℤ → ℕ → ℕ → ℕ → List ℕ → ℕ → Outcome Unit
+readData type entries records len s at =
+    refuseIf (not (isChunkType type)) valueNotAdmitted (at + 1)
+    (refuseIf (ltb (length s) (at + 48 + len)) fieldCut (at + 48)
+    (refuseIf (ltb (at + 48 + len) (length s)) bytesLeft (at + 48 + len)
+    (cond (hasEntries type) (readEntries entries records s at) (got tt (length s)))))
+
+abbrev pub readHeaded : ChunkHeader → List ℕ → ℕ → Outcome (Field Place)
 readHeaded h s at =
-    refuseIf (not (isChunkType (h .«chunk_type»))) valueNotAdmitted (at + 1)
-    (refuseIf (ltb (length s) (at + 48 + h .«data_length»)) fieldCut (at + 48)
-    (refuseIf (ltb (at + 48 + h .«data_length») (length s)) bytesLeft (at + 48 + h .«data_length»)
-    (then (readData h s at) (λ _ behind.
-    got (F.chunk h (place (at + 48) (h .«data_length»))) behind))))
+    then (readData (h .«chunk_type») (h .entries) (h .records) (h .«data_length») s at) (λ _ behind.
+    got (F.chunk h (place (at + 48) (h .«data_length»))) behind)
 
--- A chunk, to the end of s: first the whole header (6).
+-- A chunk, to the end of s: the whole header (6), then what it says.
 unfoldable pub readChunk : List ℕ → ℕ → Outcome (Field Place)
 readChunk s at = refuseIf (ltb (length s) (at + 48)) fieldCut at (readHeaded (headerAt s at) s at)
 

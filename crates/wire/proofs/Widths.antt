@@ -9,7 +9,7 @@ use lib.Arith.{digits-div, digits-mod}
 use lib.ListN.{length, getD, take, drop, length-append, length-drop}
 use borrow.Author.Tests.{le-leb, lt-leb, leb-true, leb-false}
 use lib.Dec.{leb}
-use lib.Seq.{getD-append-add, take-suc, getD-drop, getD-at}
+use lib.Seq.{getD-append-add, take-suc, getD-drop, getD-take, getD-at}
 use Rattle.wire.specs.Integers.{Bytes, bigEndian, digits, numberAt, Law}
 use Rattle.wire.specs.declared.integers.Number.the-variants.{Value, Cut}
 
@@ -99,3 +99,11 @@ module _ (n : ℕ) (s : List ℕ) (at : ℕ) where
       by : (t : Bool) → leb (at + n) (length s) ≡ t → length s < at + n
       by true f = let g = there (leb-true _ _ f) in absurd (let z : _≡_ {A = ℕ} 0 1 = cc in omega arith)
       by false f = leb-false _ _ f
+
+-- A number in a part of s is the number in s, further on.
+pub in-part : (n m k : ℕ) (s : List ℕ) (at : ℕ) → k + n ≤ m → bigEndian n (take m (drop at s)) k ≡ bigEndian n s (at + k)
+unfolding bigEndian
+in-part zero m k s at h = refl
+in-part (suc n) m k s at h =
+    let e : at + (k + n) ≡ at + k + n = omega arith in
+    rw (in-part n m k s at (omega arith), getD-take m (drop at s) (k + n) 0 (omega arith), getD-drop at s (k + n) 0, e)

@@ -1,0 +1,51 @@
+-- An entry's reader goes through the definition's checks one by one. Assumes nothing.
+use mathlib.Core.Path.{_≡_, refl, ap}
+use mathlib.Core.List.{List}
+use Prim.Native.Nat.{ℕ, _+_, _-_, _<_, _≤_}
+use native.Mathlib.Omega.{arith}
+use lib.Dec.{leb, ltb}
+use lib.ListN.{length}
+use borrow.Author.Tests.{le-leb, lt-leb, lt-ltb, le-ltb}
+use Rattle.protocol.specs.Fields.{place}
+use Rattle.protocol.specs.Refusals.{fieldCut, valueNotAdmitted}
+use Rattle.protocol.specs.declared.place.Place.{Place}
+use Rattle.rules.specs.Outcome.{Outcome, got, refused, refuseIf}
+use Rattle.rules.specs.Reading.{readEntry}
+use Rattle.fields.specs.Cursor.{cursor, from, landed, foundOr}
+use Rattle.fields.specs.declared.cursor.Cursor.{Cursor}
+use Rattle.fields.proofs.NumberFields.{NumberAt, NumberThere, number-refused, number-found, then-refused, then-found}
+
+-- The answer of `read_entry`.
+abbrev pub EntryAt : List ℕ → Cursor → Place → Cursor → Type 0
+EntryAt s c p d = (p ≡ foundOr (place 0 0) (from readEntry s c)) × (d ≡ landed (c .base) (from readEntry s c))
+
+-- Behind the four bytes.
+sized : List ℕ → ℕ → ℕ → ℕ → Outcome Place
+sized s at x next = refuseIf (leb 0x8000_0000 x) valueNotAdmitted at (refuseIf (ltb (length s) (next + x)) fieldCut at (got (place next x) (next + x)))
+
+module _ (s : List ℕ) (c : Cursor) (v : ℕ) (d : Cursor) (a : NumberAt 4 s c v d) where
+  pub entry-cut : (d .refused ≡ 0 → ⊥) → EntryAt s c (place 0 0) d
+  unfolding readEntry sized
+  entry-cut h = rw (then-refused 4 s c v d a sized h) (refl, number-refused 4 s c v d a h .1)
+
+  module _ (fresh : d .refused ≡ 0) where
+    pub there : NumberThere 4 s c v d
+    there = number-found 4 s c v d a fresh
+
+    behind : from readEntry s c ≡ sized s (c .at) v (d .at)
+    unfolding readEntry sized
+    behind = then-found 4 s c v d a sized fresh
+
+    pub entry-top-bit : (e : Cursor) → 0x7fff_ffff < v → e ≡ cursor (c .base) (c .at) valueNotAdmitted → EntryAt s c (place 0 0) e
+    unfolding sized
+    entry-top-bit e h f = rw (behind, le-leb 0x8000_0000 v h) (refl, f)
+
+    pub entry-body-cut : (e : Cursor) → v ≤ 0x7fff_ffff → length s < d .at + v → e ≡ cursor (c .base) (c .at) fieldCut → EntryAt s c (place 0 0) e
+    unfolding sized
+    entry-body-cut e h l f = rw (behind, lt-leb 0x8000_0000 v (omega arith), lt-ltb _ _ l) (refl, f)
+
+    pub entry-found : (e : Cursor) → v ≤ 0x7fff_ffff → d .at + v ≤ length s → e ≡ cursor (d .base) (d .at + v) 0 → EntryAt s c (place (d .at) v) e
+    unfolding sized
+    entry-found e h l f =
+        rw (behind, lt-leb 0x8000_0000 v (omega arith), le-ltb _ _ l)
+        (refl, rw (ap (λ (x : Cursor). x .base) (there .next)) at f)

@@ -1,0 +1,11 @@
+-- A negative type has its top bit set.
+use Rattle.chunks.proofs.ChunkTypes.{user-bits}
+use borrow.Author.Needs.{needs}
+use Rattle.chunks.proofs.chunk_type.has_entries.Statement.{statement}
+use Rattle.chunks.proofs.chunk_type.has_entries.Tie as tie
+
+pub has-entries-spec : {M : Type 1} → statement M
+has-entries-spec =
+    tie.close
+    (tie.spec
+    (λ c. user-bits _))

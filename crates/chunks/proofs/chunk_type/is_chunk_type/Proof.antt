@@ -1,0 +1,11 @@
+-- A negative type has its top bit set.
+use Rattle.chunks.proofs.ChunkTypes.{type-bits}
+use borrow.Author.Needs.{needs}
+use Rattle.chunks.proofs.chunk_type.is_chunk_type.Statement.{statement}
+use Rattle.chunks.proofs.chunk_type.is_chunk_type.Tie as tie
+
+pub is-chunk-type-spec : {M : Type 1} → statement M
+is-chunk-type-spec =
+    tie.close
+    (tie.spec
+    (λ c. type-bits _))
