@@ -1,12 +1,13 @@
 // Numbers: u8, u16, u32, u64, i64, and Active.
 ghost use mathlib.Core.Path.{_≡_};
 ghost use Rattle.protocol.specs.Fields.{number, integer};
-ghost use Rattle.protocol.specs.Frames.{flagField};
-ghost use Rattle.protocol.specs.Kinds.{u8, u16, u32, u64, i64, active};
+ghost use Rattle.protocol.specs.Frames.{codeField, flagField};
+ghost use Rattle.protocol.specs.Kinds.{u8, u16, u32, u64, i64, active, rc};
 ghost use Rattle.rules.specs.Reading.{readNumber};
 ghost use Rattle.wire.specs.Integers.{widthOf};
 ghost use Rattle.fields.specs.Cursor.{from, landed, foundOr, Reads};
 use crate::cursor::Cursor;
+use protocol::ResponseCode;
 use protocol::refusal;
 use wire::Number;
 use wire::Width;
@@ -38,6 +39,11 @@ pub struct ReadU64 {
 
 pub struct ReadI64 {
     pub value: i64,
+    pub next: Cursor,
+}
+
+pub struct ReadCode {
+    pub value: ResponseCode,
     pub next: Cursor,
 }
 
@@ -137,6 +143,18 @@ pub fn active_field(s: &[u8], c: Cursor) -> ReadFlag
     }
     ReadFlag {
         value: value == 1,
+        next: next,
+    }
+}
+
+// A response code: any number is one.
+pub fn code_field(s: &[u8], c: Cursor) -> ReadCode
+    ensures { λ r. ⌜ Reads rc (now (s .entry)) c (codeField (r .value)) (r .next) ⌝ }
+{
+    let r = u16_field(s, c);
+    let next = r.next;
+    ReadCode {
+        value: ResponseCode::from_number(r.value),
         next: next,
     }
 }

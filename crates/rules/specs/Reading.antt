@@ -199,13 +199,16 @@ pub data Reading : Type 0 where
   refusal : ℕ → ℕ → Reading
 
 -- The content starts at place 8 of the frame, and the places in it count from there.
-unfoldable pub readingOf : ℕ → ℕ → Outcome (List (Field Place)) → Reading
+abbrev pub readingOf : ℕ → ℕ → Outcome (List (Field Place)) → Reading
 readingOf key version (got fs behind) = frame (record { key = key; version = version; content = map (overPlaces (further 8)) fs })
 readingOf key version (refused n at) = refusal n (8 + at)
 
+unfoldable pub readLayout : ℕ → ℕ → List ℕ → Reading
+readLayout key version content = readingOf key version (readContent (rowOf key version) content)
+
 -- Behind Size: key (4), version (5), then the content.
 unfoldable pub readDecided : Decision → List ℕ → Reading
-readDecided (layout key version) content = readingOf key version (readContent (rowOf key version) content)
+readDecided (layout key version) content = readLayout key version content
 readDecided unlistedKey content = refusal unknownKey 4
 readDecided unlistedVersion content = refusal unknownVersion 6
 
