@@ -21,7 +21,7 @@ use Rattle.protocol.specs.declared.chunk.ChunkHeader.{ChunkHeader}
 use Rattle.protocol.specs.declared.place.Place.{Place}
 use Rattle.rules.specs.Outcome.{Outcome, got, refused, then, refuseIf, repeated}
 use Rattle.rules.specs.Reading.{headerAt, isChunkType, hasEntries, readEntry, readEntries, readData, readChunk, readField}
-use Rattle.rules.proofs.RefusalNumbers.{Numbered, numbered-entry, numbered-repeated, numbered-data}
+use Rattle.rules.proofs.Bounds.{Numbered, numbered, numbered-entry, numbered-repeated, bounded-data}
 use Rattle.fields.specs.Cursor.{cursor, from, landed, Reads}
 use Rattle.fields.specs.declared.cursor.Cursor.{Cursor}
 use Rattle.fields.proofs.Landing.{fresh, stays, refused-there, found-there}
@@ -151,7 +151,7 @@ module _ (s : List ℕ) (c : Cursor) where
       chunk-is = fresh (readField K.chunk) s c h ∙ rw (le-ltb _ _ l, i)
 
       by-data : {P : Type 0} → ((n p : ℕ) → (n ≡ 0 → ⊥) → d ≡ cursor (c .base) p n → from (readField K.chunk) s c ≡ refused n p → P) → ((last : ℕ) → d ≡ cursor (c .base) last 0 → from (readField K.chunk) s c ≡ got (F.chunk g (place (c .at + 48) (g .«data_length»))) last → P) → P
-      by-data {P} f k = by (readData (g .«chunk_type») (g .entries) (g .records) (g .«data_length») s (c .at)) chunk-is j (numbered-data (g .«chunk_type») (g .entries) (g .records) (g .«data_length») s (c .at))
+      by-data {P} f k = by (readData (g .«chunk_type») (g .entries) (g .records) (g .«data_length») s (c .at)) chunk-is j (numbered s (c .at) (readData (g .«chunk_type») (g .entries) (g .records) (g .«data_length») s (c .at)) (bounded-data s (g .«chunk_type») (g .entries) (g .records) (g .«data_length») (c .at) l))
         where
           by : (o : Outcome Unit) → from (readField K.chunk) s c ≡ then o (λ _ behind. got (F.chunk g (place (c .at + 48) (g .«data_length»))) behind) → d ≡ landed (c .base) o → Numbered o → P
           by (got _ last) e m n = k last m e

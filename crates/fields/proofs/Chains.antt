@@ -8,7 +8,7 @@ use Rattle.protocol.specs.Kinds.{Kind, Row, end, _·_}
 use Rattle.protocol.specs.declared.place.Place.{Place}
 use Rattle.rules.specs.Outcome.{Outcome, got, refused, then}
 use Rattle.rules.specs.Reading.{readField, readRow}
-use Rattle.rules.proofs.RefusalNumbers.{Numbered, numbered-field}
+use Rattle.rules.proofs.Bounds.{Numbered, numbered-field}
 use Rattle.fields.specs.Cursor.{cursor, from, landed, foundOr, moved, blank, FieldRead, Reads}
 use Rattle.fields.specs.declared.cursor.Cursor.{Cursor}
 use Rattle.fields.proofs.Landing.{fresh, stays, by-refused}

@@ -13,8 +13,7 @@ use Rattle.protocol.specs.Refusals.{badLength}
 use Rattle.protocol.specs.declared.place.Place.{Place}
 use Rattle.rules.specs.Outcome.{Outcome, got, refused, then, repeated}
 use Rattle.rules.specs.Reading.{readNumber, countOf, readCount, readList, readField, readRow}
-use Rattle.rules.proofs.RefusalNumbers.{Numbered, numbered-count, numbered-row, numbered-repeated}
-use Rattle.rules.proofs.Forward.{inside-count, forward-row, forward-repeated}
+use Rattle.rules.proofs.Bounds.{Numbered, numbered-count, numbered-row, numbered-repeated, inside-count, bounded-row, bounded-repeated}
 use Rattle.fields.specs.Cursor.{cursor, from, landed, foundOr, Reads}
 use Rattle.fields.specs.declared.cursor.Cursor.{Cursor}
 use Rattle.fields.proofs.Landing.{fresh, stays, by-refused, from-then, refused-there, found-there}
@@ -119,7 +118,7 @@ module _ (row : Row) (s : List ℕ) (c : Cursor) (n : ℕ) (d e : Cursor) (a : C
       by k (got _ last) i =
           let p : e ≡ cursor (c .base) last 0 = rw i at (k .elements-end) in
           let l : e .at ≡ last = ap (λ (x : Cursor). x .at) p in
-          let w : (d .at ≤ last) × (d .at ≤ length s → last ≤ length s) = rw i at (forward-repeated s (readRow row) (λ at. forward-row row s at) n (d .at)) in
+          let w : (d .at ≤ last) × (d .at ≤ length s → last ≤ length s) = rw i at (bounded-repeated s (readRow row) (λ at. bounded-row row s at) n (d .at)) in
           record {
             first = rw l (w .0);
             inside = count-inside k;

@@ -5,7 +5,7 @@ use mathlib.Core.List.{List}
 use Prim.Native.Nat.{ℕ, zero, suc, _+_, _-_, _<_, _≤_}
 use native.Mathlib.Omega.{arith}
 use Rattle.rules.specs.Outcome.{Outcome, got, refused, then, repeated}
-use Rattle.rules.proofs.RefusalNumbers.{Numbered}
+use Rattle.rules.proofs.Bounds.{Numbered}
 use Rattle.fields.specs.Cursor.{cursor, from, landed}
 use Rattle.fields.specs.declared.cursor.Cursor.{Cursor}
 use Rattle.fields.proofs.Landing.{fresh, stays, by-refused}

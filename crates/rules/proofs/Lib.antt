@@ -1,5 +1,4 @@
 -- What is proved of the rules.
 pub mod MarkedCases
 pub mod Numbers
-pub mod RefusalNumbers
-pub mod Forward
+pub mod Bounds

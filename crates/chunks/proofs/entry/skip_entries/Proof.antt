@@ -1,7 +1,7 @@
 -- Each turn reads one entry; a refused cursor ends the loop.
 use Prim.Native.Nat.{_≤_, _-_}
 use Rattle.fields.proofs.Loops.{ends, loop-start, loop-turn, loop-stopped, loop-ended}
-use Rattle.rules.proofs.RefusalNumbers.{numbered-entry}
+use Rattle.rules.proofs.Bounds.{numbered-entry}
 use Rattle.rules.specs.Reading.{readEntry}
 use mathlib.Core.Path.{_≡_}
 use borrow.Author.Needs.{needs}

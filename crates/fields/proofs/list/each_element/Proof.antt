@@ -2,7 +2,7 @@
 use Prim.Native.Nat.{_≤_, _-_}
 use Rattle.fields.proofs.Loops.{ends, loop-start, loop-turn, loop-stopped, loop-ended}
 use Rattle.protocol.specs.Kinds.{elementRow}
-use Rattle.rules.proofs.RefusalNumbers.{numbered-row}
+use Rattle.rules.proofs.Bounds.{numbered-row}
 use Rattle.rules.specs.Reading.{readRow}
 use mathlib.Core.Path.{_≡_}
 use borrow.Author.Needs.{needs}

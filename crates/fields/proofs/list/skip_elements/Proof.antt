@@ -1,7 +1,7 @@
 -- A refused cursor stays; a known end is the end; else the loop answers.
 use Rattle.fields.proofs.FixedWidth.{known-end}
 use Rattle.fields.proofs.Loops.{ends-refused}
-use Rattle.rules.proofs.RefusalNumbers.{numbered-row}
+use Rattle.rules.proofs.Bounds.{numbered-row}
 use Rattle.wire.specs.Integers.{Bytes}
 use mathlib.Core.Path.{_∙_, sym}
 use native.Mathlib.Omega.{arith}
