@@ -1,7 +1,7 @@
 // Subscriptions, the chunks they get, and stored offsets.
 ghost use mathlib.Core.Path.{_≡_};
 ghost use Rattle.rules.specs.Reading.{readLayout};
-ghost use Rattle.layouts.specs.Answer.{readingOf};
+ghost use Rattle.layouts.specs.Answer.{answerOf};
 use crate::reading::Reading;
 use crate::reading::finish;
 use chunks::chunk_field;
@@ -21,238 +21,274 @@ use protocol::Frame;
 
 // c u8 T spec u16 [T T]
 pub fn read_subscribe(s: &[u8]) -> Reading
-    ensures { λ r. ⌜ readingOf r ≡ readLayout 0x0007 1 (now (s .entry)) ⌝ }
+    ensures { λ r. ⌜ answerOf r ≡ readLayout 0x0007 1 (now (s .entry)) ⌝ }
 {
     let next = Cursor::content();
-    let correlation_id = u32_field(s, next);
-    let next = correlation_id.next;
-    let subscription_id = u8_field(s, next);
-    let next = subscription_id.next;
-    let stream = string_field(s, next, Form::Text);
-    let next = stream.next;
-    let offset = offset_field(s, next, false);
-    let next = offset.next;
-    let credit = u16_field(s, next);
-    let next = credit.next;
-    let properties = list_field(s, next, Element::Property);
-    let next = properties.next;
+    let read = u32_field(s, next);
+    let correlation_id = read.value;
+    let next = read.next;
+    let read = u8_field(s, next);
+    let subscription_id = read.value;
+    let next = read.next;
+    let read = string_field(s, next, Form::Text);
+    let stream = read.value;
+    let next = read.next;
+    let read = offset_field(s, next, false);
+    let offset = read.value;
+    let next = read.next;
+    let read = u16_field(s, next);
+    let credit = read.value;
+    let next = read.next;
+    let read = list_field(s, next, Element::Property);
+    let properties = read.value;
+    let next = read.next;
     let frame = Frame::Subscribe {
-        correlation_id: correlation_id.value,
-        subscription_id: subscription_id.value,
-        stream: stream.value,
-        offset: offset.value,
-        credit: credit.value,
-        properties: properties.value,
+        correlation_id,
+        subscription_id,
+        stream,
+        offset,
+        credit,
+        properties,
     };
     finish(s, next, frame)
 }
 
 // c rc
 pub fn read_subscribe_response(s: &[u8]) -> Reading
-    ensures { λ r. ⌜ readingOf r ≡ readLayout 0x8007 1 (now (s .entry)) ⌝ }
+    ensures { λ r. ⌜ answerOf r ≡ readLayout 0x8007 1 (now (s .entry)) ⌝ }
 {
     let next = Cursor::content();
-    let correlation_id = u32_field(s, next);
-    let next = correlation_id.next;
-    let code = code_field(s, next);
-    let next = code.next;
+    let read = u32_field(s, next);
+    let correlation_id = read.value;
+    let next = read.next;
+    let read = code_field(s, next);
+    let code = read.value;
+    let next = read.next;
     let frame = Frame::SubscribeResponse {
-        correlation_id: correlation_id.value,
-        code: code.value,
+        correlation_id,
+        code,
     };
     finish(s, next, frame)
 }
 
 // u8 chunk
 pub fn read_deliver(s: &[u8]) -> Reading
-    ensures { λ r. ⌜ readingOf r ≡ readLayout 0x0008 1 (now (s .entry)) ⌝ }
+    ensures { λ r. ⌜ answerOf r ≡ readLayout 0x0008 1 (now (s .entry)) ⌝ }
 {
     let next = Cursor::content();
-    let subscription_id = u8_field(s, next);
-    let next = subscription_id.next;
-    let chunk = chunk_field(s, next);
-    let next = chunk.next;
+    let read = u8_field(s, next);
+    let subscription_id = read.value;
+    let next = read.next;
+    let read = chunk_field(s, next);
+    let chunk = read.value;
+    let next = read.next;
     let frame = Frame::Deliver {
-        subscription_id: subscription_id.value,
-        chunk: chunk.value,
+        subscription_id,
+        chunk,
     };
     finish(s, next, frame)
 }
 
 // u8 u64 chunk
 pub fn read_deliver_v2(s: &[u8]) -> Reading
-    ensures { λ r. ⌜ readingOf r ≡ readLayout 0x0008 2 (now (s .entry)) ⌝ }
+    ensures { λ r. ⌜ answerOf r ≡ readLayout 0x0008 2 (now (s .entry)) ⌝ }
 {
     let next = Cursor::content();
-    let subscription_id = u8_field(s, next);
-    let next = subscription_id.next;
-    let committed_chunk_id = u64_field(s, next);
-    let next = committed_chunk_id.next;
-    let chunk = chunk_field(s, next);
-    let next = chunk.next;
+    let read = u8_field(s, next);
+    let subscription_id = read.value;
+    let next = read.next;
+    let read = u64_field(s, next);
+    let committed_chunk_id = read.value;
+    let next = read.next;
+    let read = chunk_field(s, next);
+    let chunk = read.value;
+    let next = read.next;
     let frame = Frame::DeliverV2 {
-        subscription_id: subscription_id.value,
-        committed_chunk_id: committed_chunk_id.value,
-        chunk: chunk.value,
+        subscription_id,
+        committed_chunk_id,
+        chunk,
     };
     finish(s, next, frame)
 }
 
 // u8 u16
 pub fn read_credit(s: &[u8]) -> Reading
-    ensures { λ r. ⌜ readingOf r ≡ readLayout 0x0009 1 (now (s .entry)) ⌝ }
+    ensures { λ r. ⌜ answerOf r ≡ readLayout 0x0009 1 (now (s .entry)) ⌝ }
 {
     let next = Cursor::content();
-    let subscription_id = u8_field(s, next);
-    let next = subscription_id.next;
-    let credit = u16_field(s, next);
-    let next = credit.next;
+    let read = u8_field(s, next);
+    let subscription_id = read.value;
+    let next = read.next;
+    let read = u16_field(s, next);
+    let credit = read.value;
+    let next = read.next;
     let frame = Frame::Credit {
-        subscription_id: subscription_id.value,
-        credit: credit.value,
+        subscription_id,
+        credit,
     };
     finish(s, next, frame)
 }
 
 // rc u8
 pub fn read_credit_response(s: &[u8]) -> Reading
-    ensures { λ r. ⌜ readingOf r ≡ readLayout 0x8009 1 (now (s .entry)) ⌝ }
+    ensures { λ r. ⌜ answerOf r ≡ readLayout 0x8009 1 (now (s .entry)) ⌝ }
 {
     let next = Cursor::content();
-    let code = code_field(s, next);
-    let next = code.next;
-    let subscription_id = u8_field(s, next);
-    let next = subscription_id.next;
+    let read = code_field(s, next);
+    let code = read.value;
+    let next = read.next;
+    let read = u8_field(s, next);
+    let subscription_id = read.value;
+    let next = read.next;
     let frame = Frame::CreditResponse {
-        code: code.value,
-        subscription_id: subscription_id.value,
+        code,
+        subscription_id,
     };
     finish(s, next, frame)
 }
 
 // R T u64
 pub fn read_store_offset(s: &[u8]) -> Reading
-    ensures { λ r. ⌜ readingOf r ≡ readLayout 0x000a 1 (now (s .entry)) ⌝ }
+    ensures { λ r. ⌜ answerOf r ≡ readLayout 0x000a 1 (now (s .entry)) ⌝ }
 {
     let next = Cursor::content();
-    let reference = string_field(s, next, Form::Reference);
-    let next = reference.next;
-    let stream = string_field(s, next, Form::Text);
-    let next = stream.next;
-    let offset = u64_field(s, next);
-    let next = offset.next;
+    let read = string_field(s, next, Form::Reference);
+    let reference = read.value;
+    let next = read.next;
+    let read = string_field(s, next, Form::Text);
+    let stream = read.value;
+    let next = read.next;
+    let read = u64_field(s, next);
+    let offset = read.value;
+    let next = read.next;
     let frame = Frame::StoreOffset {
-        reference: reference.value,
-        stream: stream.value,
-        offset: offset.value,
+        reference,
+        stream,
+        offset,
     };
     finish(s, next, frame)
 }
 
 // c R T
 pub fn read_query_offset(s: &[u8]) -> Reading
-    ensures { λ r. ⌜ readingOf r ≡ readLayout 0x000b 1 (now (s .entry)) ⌝ }
+    ensures { λ r. ⌜ answerOf r ≡ readLayout 0x000b 1 (now (s .entry)) ⌝ }
 {
     let next = Cursor::content();
-    let correlation_id = u32_field(s, next);
-    let next = correlation_id.next;
-    let reference = string_field(s, next, Form::Reference);
-    let next = reference.next;
-    let stream = string_field(s, next, Form::Text);
-    let next = stream.next;
+    let read = u32_field(s, next);
+    let correlation_id = read.value;
+    let next = read.next;
+    let read = string_field(s, next, Form::Reference);
+    let reference = read.value;
+    let next = read.next;
+    let read = string_field(s, next, Form::Text);
+    let stream = read.value;
+    let next = read.next;
     let frame = Frame::QueryOffset {
-        correlation_id: correlation_id.value,
-        reference: reference.value,
-        stream: stream.value,
+        correlation_id,
+        reference,
+        stream,
     };
     finish(s, next, frame)
 }
 
 // c rc u64
 pub fn read_query_offset_response(s: &[u8]) -> Reading
-    ensures { λ r. ⌜ readingOf r ≡ readLayout 0x800b 1 (now (s .entry)) ⌝ }
+    ensures { λ r. ⌜ answerOf r ≡ readLayout 0x800b 1 (now (s .entry)) ⌝ }
 {
     let next = Cursor::content();
-    let correlation_id = u32_field(s, next);
-    let next = correlation_id.next;
-    let code = code_field(s, next);
-    let next = code.next;
-    let offset = u64_field(s, next);
-    let next = offset.next;
+    let read = u32_field(s, next);
+    let correlation_id = read.value;
+    let next = read.next;
+    let read = code_field(s, next);
+    let code = read.value;
+    let next = read.next;
+    let read = u64_field(s, next);
+    let offset = read.value;
+    let next = read.next;
     let frame = Frame::QueryOffsetResponse {
-        correlation_id: correlation_id.value,
-        code: code.value,
-        offset: offset.value,
+        correlation_id,
+        code,
+        offset,
     };
     finish(s, next, frame)
 }
 
 // c u8
 pub fn read_unsubscribe(s: &[u8]) -> Reading
-    ensures { λ r. ⌜ readingOf r ≡ readLayout 0x000c 1 (now (s .entry)) ⌝ }
+    ensures { λ r. ⌜ answerOf r ≡ readLayout 0x000c 1 (now (s .entry)) ⌝ }
 {
     let next = Cursor::content();
-    let correlation_id = u32_field(s, next);
-    let next = correlation_id.next;
-    let subscription_id = u8_field(s, next);
-    let next = subscription_id.next;
+    let read = u32_field(s, next);
+    let correlation_id = read.value;
+    let next = read.next;
+    let read = u8_field(s, next);
+    let subscription_id = read.value;
+    let next = read.next;
     let frame = Frame::Unsubscribe {
-        correlation_id: correlation_id.value,
-        subscription_id: subscription_id.value,
+        correlation_id,
+        subscription_id,
     };
     finish(s, next, frame)
 }
 
 // c rc
 pub fn read_unsubscribe_response(s: &[u8]) -> Reading
-    ensures { λ r. ⌜ readingOf r ≡ readLayout 0x800c 1 (now (s .entry)) ⌝ }
+    ensures { λ r. ⌜ answerOf r ≡ readLayout 0x800c 1 (now (s .entry)) ⌝ }
 {
     let next = Cursor::content();
-    let correlation_id = u32_field(s, next);
-    let next = correlation_id.next;
-    let code = code_field(s, next);
-    let next = code.next;
+    let read = u32_field(s, next);
+    let correlation_id = read.value;
+    let next = read.next;
+    let read = code_field(s, next);
+    let code = read.value;
+    let next = read.next;
     let frame = Frame::UnsubscribeResponse {
-        correlation_id: correlation_id.value,
-        code: code.value,
+        correlation_id,
+        code,
     };
     finish(s, next, frame)
 }
 
 // c u8 u8
 pub fn read_consumer_update(s: &[u8]) -> Reading
-    ensures { λ r. ⌜ readingOf r ≡ readLayout 0x001a 1 (now (s .entry)) ⌝ }
+    ensures { λ r. ⌜ answerOf r ≡ readLayout 0x001a 1 (now (s .entry)) ⌝ }
 {
     let next = Cursor::content();
-    let correlation_id = u32_field(s, next);
-    let next = correlation_id.next;
-    let subscription_id = u8_field(s, next);
-    let next = subscription_id.next;
-    let active = active_field(s, next);
-    let next = active.next;
+    let read = u32_field(s, next);
+    let correlation_id = read.value;
+    let next = read.next;
+    let read = u8_field(s, next);
+    let subscription_id = read.value;
+    let next = read.next;
+    let read = active_field(s, next);
+    let active = read.value;
+    let next = read.next;
     let frame = Frame::ConsumerUpdate {
-        correlation_id: correlation_id.value,
-        subscription_id: subscription_id.value,
-        active: active.value,
+        correlation_id,
+        subscription_id,
+        active,
     };
     finish(s, next, frame)
 }
 
 // c rc spec
 pub fn read_consumer_update_response(s: &[u8]) -> Reading
-    ensures { λ r. ⌜ readingOf r ≡ readLayout 0x801a 1 (now (s .entry)) ⌝ }
+    ensures { λ r. ⌜ answerOf r ≡ readLayout 0x801a 1 (now (s .entry)) ⌝ }
 {
     let next = Cursor::content();
-    let correlation_id = u32_field(s, next);
-    let next = correlation_id.next;
-    let code = code_field(s, next);
-    let next = code.next;
-    let offset = offset_field(s, next, true);
-    let next = offset.next;
+    let read = u32_field(s, next);
+    let correlation_id = read.value;
+    let next = read.next;
+    let read = code_field(s, next);
+    let code = read.value;
+    let next = read.next;
+    let read = offset_field(s, next, true);
+    let offset = read.value;
+    let next = read.next;
     let frame = Frame::ConsumerUpdateResponse {
-        correlation_id: correlation_id.value,
-        code: code.value,
-        offset: offset.value,
+        correlation_id,
+        code,
+        offset,
     };
     finish(s, next, frame)
 }

@@ -1,0 +1,2 @@
+-- Each layout's fields are its row of the table.
+pub mod Contents

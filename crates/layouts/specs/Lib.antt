@@ -1,0 +1,2 @@
+-- What the answers of reading stand for.
+pub mod Answer
