@@ -1,0 +1,2 @@
+-- What is proved of whole frames.
+pub mod Sizes
