@@ -2,7 +2,7 @@
 use mathlib.Core.Bool.{Bool, true, false}
 use mathlib.Core.List.{List, [], _∷_, map}
 use mathlib.Core.Option.{Option, none, some, Option·map}
-use Prim.Native.Nat.{ℕ, _+_}
+use Prim.Native.Nat.{ℕ, _+_, _≤_}
 use lib.IntN.{ℤ, pos}
 use lib.ListN.{take, drop}
 use Rattle.protocol.specs.declared.chunk.ChunkHeader.{ChunkHeader}
@@ -85,3 +85,17 @@ valueIn s f = overPlaces (bytesAt s) f
 -- A place, further on by n.
 abbrev pub further : ℕ → Place → Place
 further n p = place (n + p .at) (p .len)
+
+-- A frame's fields with the bytes at its places.
+abbrev pub valuesIn : List ℕ → Fields Place → Fields (List ℕ)
+valuesIn s f = record { key = f .key; version = f .version; content = map (valueIn s) (f .content) }
+
+-- A place, where there is one, ends at n or before.
+abbrev pub EndsBy : ℕ → Option Place → Type 0
+EndsBy n none = Unit
+EndsBy n (some p) = p .at + p .len ≤ n
+
+-- Every place in a list of fields does.
+abbrev pub PlacesEndBy : ℕ → List (Field Place) → Type 0
+PlacesEndBy n [] = Unit
+PlacesEndBy n (f ∷ fs) = EndsBy n (f .octets) × PlacesEndBy n fs

@@ -1,13 +1,13 @@
 -- The typed frame's key, version and fields, case by case in the order of 01.
 use mathlib.Core.Path.{_≡_}
 use mathlib.Core.Bool.{Bool, true, false, cond}
-use mathlib.Core.List.{List, [], _∷_, map}
+use mathlib.Core.List.{List, [], _∷_}
 use mathlib.Core.Option.{Option, none, some}
 use Prim.Native.Nat.{ℕ}
 use Rattle.protocol.specs.Kinds.{Kind, Row, end, _·_, unsigned, signed, specification, list}
 use Rattle.protocol.specs.Kinds as K
 use Rattle.protocol.specs.Table.{rowOf}
-use Rattle.protocol.specs.Fields.{Field, Fields, number, integer, string, offset, elements, chunk, valueIn}
+use Rattle.protocol.specs.Fields.{Field, Fields, number, integer, string, offset, elements, chunk, valuesIn}
 use Rattle.protocol.specs.declared.chunk.Chunk.{Chunk}
 use Rattle.protocol.specs.declared.frame.Frame.{Frame}
 use Rattle.protocol.specs.declared.frame.Frame.the-variants.{DeclarePublisher, Publish, PublishV2, PublishConfirm, PublishError, QueryPublisher, DeletePublisher, Subscribe, Deliver, DeliverV2, Credit, StoreOffset, QueryOffset, Unsubscribe, Create, Delete, Metadata, MetadataUpdate, PeerProperties, SaslHandshake, SaslAuthenticate, Tune, Open, Close, Heartbeat, Route, Partitions, ConsumerUpdate, ExchangeCommandVersions, StreamStats, CreateSuperStream, DeleteSuperStream, DeclarePublisherResponse, QueryPublisherResponse, DeletePublisherResponse, SubscribeResponse, CreditResponse, QueryOffsetResponse, UnsubscribeResponse, CreateResponse, DeleteResponse, MetadataResponse, PeerPropertiesResponse, SaslHandshakeResponse, SaslAuthenticateResponse, TuneResponse, OpenResponse, CloseResponse, RouteResponse, PartitionsResponse, ConsumerUpdateResponse, ExchangeCommandVersionsResponse, StreamStatsResponse, CreateSuperStreamResponse, DeleteSuperStreamResponse}
@@ -98,9 +98,8 @@ fieldsOf (StreamStatsResponse c code statistics) = under 0x801c 1 (number c ∷ 
 fieldsOf (CreateSuperStreamResponse c code) = under 0x801d 1 (number c ∷ codeField code ∷ [])
 fieldsOf (DeleteSuperStreamResponse c code) = under 0x801e 1 (number c ∷ codeField code ∷ [])
 
--- A frame's fields with the bytes at its places.
 abbrev pub valuesOf : Frame → List ℕ → Fields (List ℕ)
-valuesOf f s = record { key = fieldsOf f .key; version = fieldsOf f .version; content = map (valueIn s) (fieldsOf f .content) }
+valuesOf f s = valuesIn s (fieldsOf f)
 
 -- Two frames over two buffers have the same fields when the values and the bytes at the places agree. A null has no
 -- place, so a null's place does not count.

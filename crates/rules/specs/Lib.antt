@@ -2,5 +2,6 @@
 pub mod Outcome
 pub mod Reading
 pub mod Grammar
+pub mod Exactness
 pub mod Writing
 pub mod Cases

@@ -1,9 +1,9 @@
 -- The law of every width, by induction over it: one byte more is one digit more, to the base 256. Assumes nothing.
-use mathlib.Core.Path.{_≡_, refl}
+use mathlib.Core.Path.{_≡_, refl, sym}
 use mathlib.Core.Bool.{Bool, true, false}
 use mathlib.Core.List.{List, [], _∷_, _++_, append-assoc}
 use Prim.Native.Nat.{ℕ, zero, suc, _+_, _*_, _/_, _%_, _<_, _^_, _≤_}
-use native.Mathlib.Nat.{pow-suc, pow-zero, div-one, div-add-mod', div-div-eq-div-mul, mul-comm}
+use native.Mathlib.Nat.{pow-suc, pow-zero, div-one, div-add-mod', div-div-eq-div-mul, mul-comm, mul-assoc}
 use native.Mathlib.Omega.{arith}
 use lib.Arith.{digits-div, digits-mod}
 use lib.ListN.{length, getD, take, drop, length-append, length-drop}
@@ -74,6 +74,20 @@ bytes (suc n) x = rw digits-front (bytes-cons (x / 256 ^ n % 256) (digits n x) (
 
 pub integers : (n : ℕ) → Law n
 integers n = record { size = size n; bytes = bytes n; range = range n; read-written = read-written n; written-read = written-read n }
+
+-- The number of m bytes and the number of n bytes behind them.
+pub join : (m n : ℕ) (s : List ℕ) (at : ℕ) → bigEndian m s at * 256 ^ n + bigEndian n s (at + m) ≡ bigEndian (m + n) s at
+unfolding bigEndian
+join m zero s at =
+    let e : m + 0 ≡ m = omega arith in
+    rw (e, pow-zero) (omega arith)
+join m (suc n) s at =
+    let e : m + suc n ≡ suc (m + n) = omega arith in
+    let f : at + m + n ≡ at + (m + n) = omega arith in
+    rw (e, f, ← join m n s at, pow-suc) (more (bigEndian m s at) (256 ^ n) (bigEndian n s (at + m)) (getD s (at + (m + n)) 0))
+  where
+    more : (x p y d : ℕ) → x * (p * 256) + (y * 256 + d) ≡ (x * p + y) * 256 + d
+    more x p y d = let g : x * (p * 256) ≡ x * p * 256 = sym (mul-assoc x p 256) in omega (arith, g)
 
 -- A number that is there, and one that is cut.
 module _ (n : ℕ) (s : List ℕ) (at : ℕ) where

@@ -45,7 +45,7 @@ pub fn number_at(s: &[u8], at: usize, width: Width) -> Number
     if s.len() - at < n {
         return Number::Cut;
     }
-    Number::Value(big_endian(s, at, n))
+    Number::Value(number_there(s, at, width))
 }
 
 // Puts the low bytes of v, as many as the width has, at a place of out, and answers the place behind them.
@@ -64,17 +64,33 @@ pub fn put_number(out: &mut [u8], at: usize, width: Width, v: u64) -> usize
     at + n
 }
 
-fn wide(b: u8) -> u64
+fn wide(b: u8) -> u32
     ensures { λ r. ⌜ r ≡ b ⌝ }
 {
-    b as u64
+    b as u32
 }
 
-fn big_endian(s: &[u8], at: usize, n: usize) -> u64
-    requires { ⌜ (n ≤ 8) × (at + n ≤ length (now s)) ⌝ }
+// Eight bytes are read as two halves, which the compiler makes one load of.
+fn number_there(s: &[u8], at: usize, width: Width) -> u64
+    requires { ⌜ at + widthOf width ≤ length (now s) ⌝ }
+    ensures { λ r. ⌜ r ≡ bigEndian (widthOf width) (now (s .entry)) at ⌝ }
+{
+    match width {
+        Width::One => big_endian(s, at, 1) as u64,
+        Width::Two => big_endian(s, at, 2) as u64,
+        Width::Three => big_endian(s, at, 3) as u64,
+        Width::Four => big_endian(s, at, 4) as u64,
+        Width::Eight => big_endian(s, at, 4) as u64 * 0x1_0000_0000
+            + big_endian(s, at + 4, 4) as u64,
+    }
+}
+
+// At most four bytes.
+fn big_endian(s: &[u8], at: usize, n: usize) -> u32
+    requires { ⌜ (n ≤ 4) × (at + n ≤ length (now s)) ⌝ }
     ensures { λ r. ⌜ r ≡ bigEndian n (now (s .entry)) at ⌝ }
 {
-    let mut v: u64 = 0;
+    let mut v: u32 = 0;
     let mut i = 0;
     while i < n {
         v = v * 256 + wide(s[at + i]);

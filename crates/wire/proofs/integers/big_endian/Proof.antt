@@ -18,10 +18,10 @@ Inv-loop s at n v₀ i₀ v i = (i ≤ n) × (v ≡ bigEndian i s at) × (v < 25
 abbrev μ-loop : tie.MeasureT-loop
 μ-loop s at n v₀ i₀ v i = n - i
 
-small : (v i n : ℕ) → v < 256 ^ i → i < n → n ≤ 8 → v < 256 ^ 7
+small : (v i n : ℕ) → v < 256 ^ i → i < n → n ≤ 4 → v < 256 ^ 3
 small v i n h l m =
-    let k : i ≤ 7 = omega arith in
-    let p : 256 ^ i ≤ 256 ^ 7 = pow-le-pow-right (lit< tt) k in
+    let k : i ≤ 3 = omega arith in
+    let p : 256 ^ i ≤ 256 ^ 3 = pow-le-pow-right (lit< tt) k in
     omega arith
 
 more : (v b i : ℕ) → v < 256 ^ i → b < 256 → v * 256 + b < 256 ^ (i + 1)
