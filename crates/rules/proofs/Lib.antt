@@ -4,3 +4,4 @@ pub mod Numbers
 pub mod Bounds
 pub mod Appended
 pub mod Beyond
+pub mod Complete
