@@ -5,7 +5,7 @@ use mathlib.Core.Path.{_≡_, refl, sym, _∙_, ap, subst}
 use mathlib.Core.Bool.{Bool, true, false, cond, not, _&&_}
 use mathlib.Core.List.{List, [], _∷_, _++_, map}
 use mathlib.Core.Logic.{_⊎_, inl, inr}
-use mathlib.Core.Option.{Option, none, some}
+use mathlib.Core.Option.{Option, none, some, Option·map}
 use Prim.Native.Nat.{ℕ, zero, suc, _+_, _-_, _/_, _^_, _≤_, _<_}
 use native.Mathlib.Omega.{arith}
 use lib.Dec.{eqb, ltb, leb}
@@ -17,7 +17,7 @@ use Rattle.wire.specs.Signed as two's
 use Rattle.wire.specs.Utf8.{utf8}
 use Rattle.wire.proofs.TwosComplement.{below-half, minus-one, twos-complement}
 use Rattle.wire.proofs.Widths.{integers, positive}
-use Rattle.protocol.specs.Decision.{Decision, layout, Versioned, versionsIn, ofVersion, decide}
+use Rattle.protocol.specs.Decision.{Decision, layout, unlistedKey, unlistedVersion, Versioned, versionsIn, ofVersion, among, decide}
 use Rattle.protocol.specs.Fields.{Field, Fields, number, integer, elements, place, bytesAt, overPlaces, valueIn, valuesIn, further, EndsBy, PlacesEndBy}
 use Rattle.protocol.specs.Fields as F
 use Rattle.protocol.specs.Kinds.{lengthWidth, Kind, unsigned, signed, string, specification, list, chunk, Row, end, _·_}
@@ -330,3 +330,131 @@ mutual
       together (f, a, b, i) (fs, c', d, j) =
           let l : at + length (encode k v) + length (encodeRow row ws) ≡ at + length (encode k v ++ encodeRow row ws) = omega (arith, length-append (encode k v) (encodeRow row ws)) in
           (f ∷ fs, rw (a, c', l), rw (b, d), (i, j))
+
+-- ---- Frames
+
+-- What reading needs of a line of the table: the key and the version hold in two bytes, and a chunk stands last.
+abbrev holds : Listing → Bool
+holds l = ltb (l .key) (256 ^ 2) && ltb (l .version) (256 ^ 2) && chunkLastIn true (l .row)
+
+unfoldable allHold : List Listing → Bool
+allHold [] = true
+allHold (l ∷ ls) = holds l && allHold ls
+
+table-holds : allHold table ≡ true
+unfolding allHold table chunkLast chunkLastIn
+table-holds = refl
+
+rows-hold : (ls : List Listing) (k v : ℕ) → allHold ls ≡ true → chunkLastIn true (rowIn ls k v) ≡ true
+unfolding allHold rowIn
+rows-hold [] k v h = unfold chunkLastIn in refl
+rows-hold (l ∷ ls) k v h = by (eqb k (l .key) && eqb v (l .version)) (both-true (holds l) (allHold ls) h) (rows-hold ls k v)
+  where
+    by : (t : Bool) → (holds l ≡ true) × (allHold ls ≡ true) → (allHold ls ≡ true → chunkLastIn true (rowIn ls k v) ≡ true) → chunkLastIn true (cond t (l .row) (rowIn ls k v)) ≡ true
+    by true h more = both-true (ltb (l .key) (256 ^ 2) && ltb (l .version) (256 ^ 2)) (chunkLastIn true (l .row)) (h .0) .1
+    by false h more = more (h .1)
+
+-- A key and a version hold in two bytes.
+abbrev TwoBytes : Decision → Type 0
+TwoBytes (layout k v) = (k < 256 ^ 2) × (v < 256 ^ 2)
+TwoBytes unlistedKey = Unit
+TwoBytes unlistedVersion = Unit
+
+abbrev AllTwoBytes : List Versioned → Type 0
+AllTwoBytes [] = Unit
+AllTwoBytes (l ∷ ls) = ((l .key < 256 ^ 2) × (l .version < 256 ^ 2)) × AllTwoBytes ls
+
+versions-hold : (ls : List Listing) (k : ℕ) → allHold ls ≡ true → AllTwoBytes (versionsIn ls k)
+unfolding allHold versionsIn
+versions-hold [] k h = tt
+versions-hold (l ∷ ls) k h = by (eqb k (l .key)) (both-true (holds l) (allHold ls) h) (versions-hold ls k)
+  where
+    small : holds l ≡ true → (l .key < 256 ^ 2) × (l .version < 256 ^ 2)
+    small e =
+        let t = both-true (ltb (l .key) (256 ^ 2)) (ltb (l .version) (256 ^ 2)) (both-true (ltb (l .key) (256 ^ 2) && ltb (l .version) (256 ^ 2)) (chunkLastIn true (l .row)) e .0) in
+        (ltb-true (l .key) (256 ^ 2) (t .0), ltb-true (l .version) (256 ^ 2) (t .1))
+
+    by : (t : Bool) → (holds l ≡ true) × (allHold ls ≡ true) → (allHold ls ≡ true → AllTwoBytes (versionsIn ls k)) → AllTwoBytes (cond t (record { key = l .key; version = l .version } ∷ versionsIn ls k) (versionsIn ls k))
+    by true h more = (small (h .0), more (h .1))
+    by false h more = more (h .1)
+
+picked-holds : (ls : List Versioned) (v : ℕ) → AllTwoBytes ls → TwoBytes (ofVersion v ls)
+unfolding ofVersion
+picked-holds [] v h = tt
+picked-holds (l ∷ ls) v h = by (eqb v (l .version)) (picked-holds ls v (h .1))
+  where
+    by : (t : Bool) → TwoBytes (ofVersion v ls) → TwoBytes (cond t (layout (l .key) (l .version)) (ofVersion v ls))
+    by true more = h .0
+    by false more = more
+
+among-holds : (ls : List Versioned) (v : ℕ) → AllTwoBytes ls → TwoBytes (among ls v)
+among-holds [] v h = tt
+among-holds (l ∷ ls) v h = picked-holds (l ∷ ls) v h
+
+decided-holds : (k v : ℕ) → TwoBytes (decide k v)
+unfolding decide
+decided-holds k v = among-holds (versionsIn table k) v (versions-hold table k table-holds)
+
+-- The content of a frame starts at place 8, so a place in it is 8 further on in the frame.
+module _ (s c rest : List ℕ) (h : Stands s 8 c rest) where
+  moved-place : (o : Option Place) → EndsBy (length c) o → Option·map (bytesAt s) (Option·map (further 8) o) ≡ Option·map (bytesAt c) o
+  moved-place none l = refl
+  moved-place (some p) l = ap some (stands-part s 8 c rest (p .at) (p .len) h l)
+
+  moved-field : (f : Field Place) → EndsBy (length c) (f .octets) → valueIn s (overPlaces (further 8) f) ≡ valueIn c f
+  moved-field f l =
+      ap (λ o. record { number = f .number; integer = f .integer; octets = o; offset = f .offset; header = f .header })
+      (moved-place (f .octets) l)
+
+  moved : (fs : List (Field Place)) → PlacesEndBy (length c) fs → map (valueIn s) (map (overPlaces (further 8)) fs) ≡ map (valueIn c) fs
+  moved [] l = refl
+  moved (f ∷ fs) l = rw (moved-field f (l .0), moved fs (l .1))
+
+content-read : (row : Row) (vs : List Value) → chunkLastIn true row ≡ true → ValidRow row vs → (fs : List (Field Place)) × (readContent row (encodeRow row vs) ≡ got fs (length (encodeRow row vs))) × (map (valueIn (encodeRow row vs)) fs ≡ vs) × PlacesEndBy (length (encodeRow row vs)) fs
+unfolding readContent
+content-read row vs h v =
+    let c : List ℕ = encodeRow row vs in
+    let l : 0 + length c ≡ length c = omega arith in
+    let r = row-read row c 0 vs [] true h (λ _. refl) v (stands-whole c) in
+    (r .0, rw (r .1, l, le-ltb (length c) (length c) (omega arith)), r .2, r .3)
+
+pub complete : (s : List ℕ) (limit : ℕ) (v : Fields (List ℕ)) → Starts s limit v → (f : Fields Place) × (readFrame s limit ≡ frame f) × (valuesIn s f ≡ v)
+unfolding readFrame readSized readDecided readLayout
+complete s limit v h =
+    (fields, rw (le-ltb (length s) 4 (omega (arith, enough)), size .0, h .within, le-ltb size' 4 (omega arith), le-ltb (length s) (size' + 4) (omega (arith, enough)), key .0, version .0, h .valid .listed, part, r .1), ap (λ vs. record { key = v .key; version = v .version; content = vs }) (moved s c (h .rest) (version .1) (r .0) (r .3) ∙ r .2))
+  where
+    row : Row
+    row = rowOf (v .key) (v .version)
+
+    c : List ℕ
+    c = encodeRow row (v .content)
+
+    size' : ℕ
+    size' = sizeOf v
+
+    small : (v .key < 256 ^ 2) × (v .version < 256 ^ 2)
+    small = subst TwoBytes (h .valid .listed) (decided-holds (v .key) (v .version))
+
+    whole : Stands s 0 (encodeFrame v) (h .rest)
+    whole = record { front = []; long = refl; whole = h .whole }
+
+    size : (bigEndian 4 s 0 ≡ size') × Stands s 4 (digits 2 (v .key) ++ (digits 2 (v .version) ++ c)) (h .rest)
+    size = next-number s 0 4 4 size' (digits 2 (v .key) ++ (digits 2 (v .version) ++ c)) (h .rest) (h .valid .size) (omega arith) whole
+
+    key : (bigEndian 2 s 4 ≡ v .key) × Stands s 6 (digits 2 (v .version) ++ c) (h .rest)
+    key = next-number s 4 6 2 (v .key) (digits 2 (v .version) ++ c) (h .rest) (small .0) (omega arith) (size .1)
+
+    version : (bigEndian 2 s 6 ≡ v .version) × Stands s 8 c (h .rest)
+    version = next-number s 6 8 2 (v .version) c (h .rest) (small .1) (omega arith) (key .1)
+
+    enough : size' + 4 ≤ length s
+    enough = omega (arith, stands-length c (h .rest) (version .1))
+
+    part : take (size' - 4) (drop 8 s) ≡ c
+    part = let e : size' - 4 ≡ length c = omega arith in rw e (stands-bytes c (h .rest) (version .1))
+
+    r : (fs : List (Field Place)) × (readContent row c ≡ got fs (length c)) × (map (valueIn c) fs ≡ v .content) × PlacesEndBy (length c) fs
+    r = content-read row (v .content) (rows-hold table (v .key) (v .version) table-holds) (h .valid .content)
+
+    fields : Fields Place
+    fields = record { key = v .key; version = v .version; content = map (overPlaces (further 8)) (r .0) }
