@@ -37,7 +37,7 @@ use Rattle.rules.specs.Outcome.{Outcome, got, refused, then, refuseIf, r
 use Rattle.rules.specs.Reading.{readNumber, readUnsigned, readSigned, tooLong, isText, readBody, readString, readOffset, readTimestamp, readTyped, readSpecification, countOf, readCount, readList, headerAt, isChunkType, hasEntries, readEntry, readEntries, readData, readHeaded, readChunk, readField, readRow, readContent, Reading, frame, overLimit, readLayout, readDecided, readSized, readFrame}
 
 -- A field is read up to a place, and its value is v.
-abbrev Reads : List ℕ → ℕ → Value → Outcome (Field Place) → Type 0
+abbrev pub Reads : List ℕ → ℕ → Value → Outcome (Field Place) → Type 0
 Reads s next v o = (f : Field Place) × (o ≡ got f next) × (valueIn s f ≡ v) × EndsBy (length s) (f .octets)
 
 number-read : (s : List ℕ) (at n x : ℕ) (rest : List ℕ) → x < 256 ^ n → Stands s at (digits n x) rest → readNumber n s at ≡ got x (at + n)
@@ -72,12 +72,12 @@ null-length Bytes = minus-one 3 (256 ^ 4 - 1) (omega arith) (omega arith)
 null-bits : (n : ℕ) → 256 ^ n - 1 < 256 ^ n
 null-bits n = omega (arith, positive n)
 
-not-long : (form : Form) (b : List ℕ) → ValidBytes form b → tooLong form (length b) ≡ false
+pub not-long : (form : Form) (b : List ℕ) → ValidBytes form b → tooLong form (length b) ≡ false
 not-long Text b h = refl
 not-long Reference b h = le-ltb 256 (length b) (h .0)
 not-long Bytes b h = refl
 
-is-text : (form : Form) (b : List ℕ) → ValidBytes form b → isText form b ≡ true
+pub is-text : (form : Form) (b : List ℕ) → ValidBytes form b → isText form b ≡ true
 is-text Text b h = h
 is-text Reference b h = h .1
 is-text Bytes b h = refl
@@ -148,7 +148,7 @@ specification-read s at admitsNone (Timestamp z) rest v h =
 -- ---- Lists
 
 -- Pieces that are each read as far as they reach.
-pieces-read : {A : Type 0} (P : List ℕ → Type 0) (element : List ℕ → ℕ → Outcome A) (s : List ℕ) → ((a rest : List ℕ) (at : ℕ) → P a → Stands s at a rest → (x : A) × (element s at ≡ got x (at + length a))) → (n : ℕ) (b rest : List ℕ) (at : ℕ) → Pieces P n b → Stands s at b rest → repeated element n s at ≡ got tt (at + length b)
+pub pieces-read : {A : Type 0} (P : List ℕ → Type 0) (element : List ℕ → ℕ → Outcome A) (s : List ℕ) → ((a rest : List ℕ) (at : ℕ) → P a → Stands s at a rest → (x : A) × (element s at ≡ got x (at + length a))) → (n : ℕ) (b rest : List ℕ) (at : ℕ) → Pieces P n b → Stands s at b rest → repeated element n s at ≡ got tt (at + length b)
 unfolding repeated
 pieces-read P element s each zero b rest at e h = let l : at ≡ at + length b = omega (arith, ap length e) in ap (got tt) l
 pieces-read P element s each (suc n) b rest at (a, c, p, e, more) h =
@@ -170,7 +170,7 @@ list-read P element s each n b rest at l pieces h =
 
 -- ---- Chunks
 
-entry-read : (s a rest : List ℕ) (at : ℕ) → Entry a → Stands s at a rest → (x : Place) × (readEntry s at ≡ got x (at + length a))
+pub entry-read : (s a rest : List ℕ) (at : ℕ) → Entry a → Stands s at a rest → (x : Place) × (readEntry s at ≡ got x (at + length a))
 unfolding readEntry
 entry-read s a rest at (b, l, e) h =
     let n : ℕ = length b in
@@ -193,7 +193,7 @@ next-integer s at next n z b rest l e h =
     let k = next-number s at next (suc n) (two's.unsigned (suc n) z) b rest (twos-complement n .bits z l) e h in
     (ap (two's.signed (suc n)) (k .0) ∙ twos-complement n .signed-unsigned z l, k .1)
 
-type-fits : (z : ℤ) → (z ≡ pos 0) ⊎ ((z ≡ pos 1) ⊎ (z ≡ pos 2)) → two's.Signed 1 z
+pub type-fits : (z : ℤ) → (z ≡ pos 0) ⊎ ((z ≡ pos 1) ⊎ (z ≡ pos 2)) → two's.Signed 1 z
 type-fits z (inl e) = rw e (omega arith)
 type-fits z (inr (inl e)) = rw e (omega arith)
 type-fits z (inr (inr e)) = rw e (omega arith)
@@ -251,13 +251,13 @@ chunk-read s at h b v a =
 
 -- ---- Kinds and rows
 
-abbrev isEnd : Row → Bool
+abbrev pub isEnd : Row → Bool
 isEnd end = true
 isEnd (kind · row) = false
 
 -- A chunk stands only where the content ends.
 unfoldable mutual
-  chunkLast : Bool → Kind → Bool
+  pub chunkLast : Bool → Kind → Bool
   chunkLast last (unsigned n most) = true
   chunkLast last (signed n) = true
   chunkLast last (string form nullable) = true
@@ -265,19 +265,19 @@ unfoldable mutual
   chunkLast last (list row) = chunkLastIn false row
   chunkLast last chunk = last
 
-  chunkLastIn : Bool → Row → Bool
+  pub chunkLastIn : Bool → Row → Bool
   chunkLastIn last end = true
   chunkLastIn last (kind · row) = chunkLast (last && isEnd row) kind && chunkLastIn last row
 
-no-last : false ≡ true → ⊥
+pub no-last : false ≡ true → ⊥
 no-last f = let z : _≡_ {A = ℕ} 0 1 = cc in omega arith
 
-both-true : (a b : Bool) → (a && b) ≡ true → (a ≡ true) × (b ≡ true)
+pub both-true : (a b : Bool) → (a && b) ≡ true → (a ≡ true) × (b ≡ true)
 both-true true b e = (refl, e)
 both-true false b e = absurd (no-last e)
 
 -- A row's fields are read up to a place.
-abbrev ReadsRow : List ℕ → ℕ → List Value → Outcome (List (Field Place)) → Type 0
+abbrev pub ReadsRow : List ℕ → ℕ → List Value → Outcome (List (Field Place)) → Type 0
 ReadsRow s next vs o = (fs : List (Field Place)) × (o ≡ got fs next) × (map (valueIn s) fs ≡ vs) × PlacesEndBy (length s) fs
 
 -- Behind the last field nothing stands.
@@ -286,7 +286,7 @@ nothing-behind last end vs rest h e = h (both-true last true e .0)
 nothing-behind last (kind · row) vs rest h e = absurd (no-last (both-true last false e .1))
 
 -- One element of a list whose row is read.
-element-read : (row : Row) (s : List ℕ) (at : ℕ) (a rest : List ℕ) → ((vs : List Value) → ValidRow row vs → Stands s at (encodeRow row vs) rest → ReadsRow s (at + length (encodeRow row vs)) vs (readRow row s at)) → (vs : List Value) × ValidRow row vs × (a ≡ encodeRow row vs) → Stands s at a rest → (fs : List (Field Place)) × (readRow row s at ≡ got fs (at + length a))
+pub element-read : (row : Row) (s : List ℕ) (at : ℕ) (a rest : List ℕ) → ((vs : List Value) → ValidRow row vs → Stands s at (encodeRow row vs) rest → ReadsRow s (at + length (encodeRow row vs)) vs (readRow row s at)) → (vs : List Value) × ValidRow row vs × (a ≡ encodeRow row vs) → Stands s at a rest → (fs : List (Field Place)) × (readRow row s at ≡ got fs (at + length a))
 element-read row s at a rest reading (vs, v, e) h =
     let r = reading vs v (subst (λ t. Stands s at t rest) e h) in
     (r .0, r .1 ∙ ap (λ t. got (r .0) (at + length t)) (sym e))
@@ -312,7 +312,7 @@ mutual
       (chunk-read s at (v .header) b l
       (subst (λ t. Stands s at (encodeHeader (v .header) ++ b) t) (r c) (subst (λ u. Stands s at (encode chunk u) rest) e h)))
 
-  row-read : (row : Row) (s : List ℕ) (at : ℕ) (vs : List Value) (rest : List ℕ) (last : Bool) → chunkLastIn last row ≡ true → (last ≡ true → rest ≡ []) → ValidRow row vs → Stands s at (encodeRow row vs) rest → ReadsRow s (at + length (encodeRow row vs)) vs (readRow row s at)
+  pub row-read : (row : Row) (s : List ℕ) (at : ℕ) (vs : List Value) (rest : List ℕ) (last : Bool) → chunkLastIn last row ≡ true → (last ≡ true → rest ≡ []) → ValidRow row vs → Stands s at (encodeRow row vs) rest → ReadsRow s (at + length (encodeRow row vs)) vs (readRow row s at)
   row-read end s at vs rest last c r e h = ([], (let l : at ≡ at + 0 = omega arith in ap (got []) l), sym e, tt)
   row-read (k · row) s at vs rest last c r (v, ws, e, valid, more) h =
       subst (λ us. ReadsRow s (at + length (encodeRow (k · row) us)) us (readRow (k · row) s at)) (sym e)

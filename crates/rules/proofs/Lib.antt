@@ -5,3 +5,4 @@ pub mod Bounds
 pub mod Appended
 pub mod Beyond
 pub mod Complete
+pub mod WriteField
