@@ -2,3 +2,5 @@
 pub mod MarkedCases
 pub mod Numbers
 pub mod Bounds
+pub mod Parts
+pub mod Gives
