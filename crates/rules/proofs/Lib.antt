@@ -4,3 +4,4 @@ pub mod Numbers
 pub mod Bounds
 pub mod Parts
 pub mod Gives
+pub mod Inside
