@@ -35,6 +35,10 @@ module _ {A : Type 0} (P : A → ℕ → Type 0) where
   pub after-number : (n : ℕ) (s : List ℕ) (at : ℕ) (f : ℕ → ℕ → Outcome A) → (at + n ≤ length s → Gives P (f (bigEndian n s at) (at + n))) → Gives P (then (readNumber n s at) f)
   after-number n s at f h = number-cases n s at (λ o. Gives P (then o f)) h (λ _. tt)
 
+pub weaker : {A : Type 0} (P Q : A → ℕ → Type 0) (o : Outcome A) → ((a : A) (next : ℕ) → P a next → Q a next) → Gives P o → Gives Q o
+weaker P Q (got a next) f h = f a next h
+weaker P Q (refused n p) f h = tt
+
 -- What holds of every refusal holds of reading a frame, if it holds of reading a layout behind all the checks of the
 -- frame's first eight bytes.
 module _ (P : Reading → Type 0) (short-case : (n : ℕ) → P (short n)) (refusal-case : (n p : ℕ) → P (refusal n p)) (s : List ℕ) (limit : ℕ) where

@@ -5,3 +5,5 @@ pub mod Bounds
 pub mod Parts
 pub mod Gives
 pub mod Inside
+pub mod SoundFields
+pub mod SoundChunks
