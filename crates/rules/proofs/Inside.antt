@@ -12,15 +12,14 @@ use lib.ListN.{length, take, drop}
 use borrow.Author.Tests.{ltb-false}
 use Rattle.wire.specs.Integers.{bigEndian}
 use Rattle.wire.specs.Signed as two's
-use Rattle.protocol.specs.Decision.{Decision, layout, unlistedKey, unlistedVersion, decide}
-use Rattle.protocol.specs.Fields.{Field, Fields, place, overPlaces, further, EndsBy, PlacesEndBy}
+use Rattle.protocol.specs.Fields.{Field, Fields, overPlaces, further, EndsBy, PlacesEndBy}
 use Rattle.protocol.specs.Kinds.{lengthWidth, Kind, unsigned, signed, string, specification, list, chunk, Row, end, _·_}
 use Rattle.protocol.specs.Table.{rowOf}
 use Rattle.protocol.specs.declared.chunk.ChunkHeader.{ChunkHeader}
 use Rattle.protocol.specs.declared.kind.Form.{Form}
 use Rattle.protocol.specs.declared.place.Place.{Place}
 use Rattle.rules.specs.Outcome.{Outcome, got, refused, refuseIf, repeated}
-use Rattle.rules.specs.Reading.{readUnsigned, readSigned, readBody, readString, readOffset, readTimestamp, readTyped, readSpecification, countOf, readCount, readList, headerAt, hasEntries, isChunkType, tooLong, isText, readEntries, readData, readHeaded, readChunk, readField, readRow, readContent, Reading, frame, short, refusal, readingOf, readLayout, readDecided, overLimit, readSized, readFrame}
+use Rattle.rules.specs.Reading.{readUnsigned, readSigned, readBody, readString, readOffset, readTimestamp, readTyped, readSpecification, countOf, readCount, readList, headerAt, hasEntries, isChunkType, tooLong, isText, readEntries, readData, readHeaded, readChunk, readField, readRow, readContent, Reading, frame, short, refusal, readingOf, readLayout, readFrame}
 use Rattle.rules.specs.Exactness.{frameLength}
 use Rattle.rules.proofs.Bounds.{Bounded, bounded-repeated, bounded-row}
 use Rattle.rules.proofs.Gives.{Gives, check, choice, after, after-number, frame-cases}

@@ -7,3 +7,5 @@ pub mod Gives
 pub mod Inside
 pub mod SoundFields
 pub mod SoundChunks
+pub mod Listed
+pub mod Sound

@@ -4,7 +4,7 @@ use mathlib.Core.List.{List, [], _∷_, _++_, append-assoc}
 use Prim.Native.Nat.{ℕ, zero, suc, _+_, _-_, _<_, _≤_}
 use native.Mathlib.Omega.{arith}
 use lib.ListN.{length, getD, take, drop, length-append, length-drop, take-append-drop}
-use lib.Seq.{length-take-le, take-nil, take-take, take-at, drop-drop, getD-take, getD-drop}
+use lib.Seq.{length-take-le, take-nil, take-take, take-at, drop-drop, getD-drop}
 use Rattle.wire.specs.Integers.{Bytes, digits, bigEndian}
 use Rattle.wire.proofs.Widths.{integers}
 

@@ -1,27 +1,26 @@
 -- A chunk that is read is well formed and is what the bytes encode: its header is twelve numbers one behind another, and
 -- its entries are read as the elements of a list are. Assumes nothing.
 use mathlib.Core.Path.{_≡_, refl, sym, ap, subst, _∙_}
-use mathlib.Core.Bool.{Bool, true, false, cond, not, _&&_}
-use mathlib.Core.List.{List, [], _∷_, _++_, map}
+use mathlib.Core.Bool.{Bool, true, false, cond, not}
+use mathlib.Core.List.{List, _++_}
 use mathlib.Core.Logic.{_⊎_, inl, inr}
-use Prim.Native.Nat.{ℕ, zero, suc, _+_, _-_, _/_, _^_, _≤_, _<_}
+use Prim.Native.Nat.{ℕ, zero, suc, _+_, _≤_, _<_}
 use native.Mathlib.Omega.{arith}
 use lib.Dec.{eqb, ltb, leb}
 use lib.IntN.{ℤ, pos, negsuc}
 use lib.ListN.{length, take, drop}
-use borrow.Author.Tests.{ltb-true, ltb-false, leb-true, leb-false, eqb-true, not-false}
+use borrow.Author.Tests.{ltb-false, leb-true, leb-false, eqb-true, not-false}
 use Rattle.wire.specs.Integers.{Bytes, digits, bigEndian}
 use Rattle.wire.specs.Signed as two's
 use Rattle.wire.proofs.Widths.{integers}
 use Rattle.wire.proofs.TwosComplement.{twos-complement}
-use Rattle.protocol.specs.Fields.{Field, place}
 use Rattle.protocol.specs.Kinds.{chunk}
 use Rattle.protocol.specs.declared.chunk.ChunkHeader.{ChunkHeader}
-use Rattle.rules.specs.Outcome.{Outcome, got, refused, refuseIf, repeated}
-use Rattle.rules.specs.Grammar.{encodeHeader, Pieces, Length, Valid, Entry, ValidHeader, ValidChunk}
+use Rattle.rules.specs.Outcome.{repeated}
+use Rattle.rules.specs.Grammar.{encodeHeader, Pieces, Length, Valid, Entry, ValidHeader}
 use Rattle.rules.specs.Reading.{headerAt, isChunkType, hasEntries, readEntry, readEntries, readData, readHeaded, readChunk}
 use Rattle.rules.proofs.Gives.{Gives, check, choice, after, after-number, weaker}
-use Rattle.rules.proofs.Parts.{Part, nothing, joined, there, taken, number-part, length-part}
+use Rattle.rules.proofs.Parts.{Part, joined, there, taken, number-part, length-part}
 use Rattle.rules.proofs.SoundFields.{Sound, Piece, Pieced, sound-repeated, signed-there}
 
 -- Types are 0, 1, 2.

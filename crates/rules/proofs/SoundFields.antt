@@ -1,28 +1,26 @@
 -- What is read of each kind of field but the chunk is well formed and is what the bytes encode: behind each check stands what the grammar asks for, the bytes
 -- of a number are its digits, and what is read one behind another is encoded one behind another. Assumes nothing.
-use mathlib.Core.Path.{_≡_, refl, sym, ap, subst, _∙_}
-use mathlib.Core.Bool.{Bool, true, false, cond, not, _&&_}
-use mathlib.Core.List.{List, [], _∷_, _++_, map}
-use mathlib.Core.Logic.{_⊎_, inl, inr}
-use mathlib.Core.Option.{Option, none, some, Option·map}
+use mathlib.Core.Path.{_≡_, refl, sym, ap, subst}
+use mathlib.Core.Bool.{Bool, true, false, not}
+use mathlib.Core.List.{List, [], _++_, map}
 use Prim.Native.Nat.{ℕ, zero, suc, _+_, _-_, _/_, _^_, _≤_, _<_}
 use native.Mathlib.Omega.{arith}
-use lib.Dec.{eqb, ltb, leb}
+use lib.Dec.{eqb, ltb}
 use lib.IntN.{ℤ, pos, negsuc}
 use lib.ListN.{length, take, drop}
-use borrow.Author.Tests.{ltb-true, ltb-false, leb-true, leb-false, eqb-true, not-false}
+use borrow.Author.Tests.{ltb-false, eqb-true, not-false}
 use Rattle.wire.specs.Integers.{Bytes, digits, bigEndian}
 use Rattle.wire.specs.Signed as two's
 use Rattle.wire.proofs.Widths.{integers}
 use Rattle.wire.proofs.TwosComplement.{twos-complement}
-use Rattle.protocol.specs.Fields.{Field, place, elements, valueIn}
-use Rattle.protocol.specs.Kinds.{lengthWidth, Kind, unsigned, signed, string, specification, list, chunk, Row, end, _·_}
+use Rattle.protocol.specs.Fields.{Field, elements, valueIn}
+use Rattle.protocol.specs.Kinds.{lengthWidth, Kind, unsigned, signed, string, specification, list, Row}
 use Rattle.protocol.specs.declared.kind.Form.{Form}
 use Rattle.protocol.specs.declared.kind.Form.the-variants.{Text, Reference, Bytes as Raw}
 use Rattle.protocol.specs.declared.place.Place.{Place}
-use Rattle.rules.specs.Outcome.{Outcome, got, refused, refuseIf, repeated}
-use Rattle.rules.specs.Grammar.{Value, encode, encodeRow, Pieces, Length, ValidBytes, Valid, ValidRow, Entry}
-use Rattle.rules.specs.Reading.{readUnsigned, readSigned, readBody, readString, readOffset, readTimestamp, readTyped, readSpecification, countOf, readCount, readList, tooLong, isText, readEntry, readField, readRow}
+use Rattle.rules.specs.Outcome.{Outcome, repeated}
+use Rattle.rules.specs.Grammar.{Value, encode, encodeRow, Pieces, Length, ValidBytes, Valid, ValidRow}
+use Rattle.rules.specs.Reading.{readUnsigned, readSigned, readBody, readString, readOffset, readTimestamp, readTyped, readSpecification, countOf, readCount, readList, tooLong, isText, readRow}
 use Rattle.rules.proofs.Gives.{Gives, check, choice, after, after-number, weaker}
 use Rattle.rules.proofs.Parts.{Part, nothing, joined, there, taken, number-part, length-part}
 
