@@ -2,6 +2,13 @@
 pub mod MarkedCases
 pub mod Numbers
 pub mod Bounds
+pub mod Parts
+pub mod Gives
+pub mod Inside
+pub mod SoundFields
+pub mod SoundChunks
+pub mod Listed
+pub mod Sound
 pub mod Appended
 pub mod Beyond
 pub mod Complete
