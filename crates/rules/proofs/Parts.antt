@@ -1,9 +1,9 @@
 -- Parts of lists: a part of a part is a part, and what stands one behind another stands together. Assumes nothing.
 use mathlib.Core.Path.{_≡_, refl, sym, ap, _∙_}
-use mathlib.Core.List.{List, [], _∷_, _++_, append-assoc}
+use mathlib.Core.List.{List, [], _∷_, _++_, append-assoc, append-nil}
 use Prim.Native.Nat.{ℕ, zero, suc, _+_, _-_, _<_, _≤_}
 use native.Mathlib.Omega.{arith}
-use lib.ListN.{length, getD, take, drop, length-append, length-drop, take-append-drop}
+use lib.ListN.{length, getD, take, drop, length-append, length-drop, take-append-drop, drop-of-length-le}
 use lib.Seq.{length-take-le, take-nil, take-take, take-at, drop-drop, getD-drop}
 use Rattle.wire.specs.Integers.{Bytes, digits, bigEndian}
 use Rattle.wire.proofs.Widths.{integers}
@@ -54,6 +54,10 @@ module _ (s : List ℕ) where
 
   pub number-part : (n at : ℕ) → Bytes s → at + n ≤ length s → Part s at (digits n (bigEndian n s at)) (at + n)
   number-part n at b h = rw (integers n .written-read s at b h) (there n at h)
+
+-- A part from the start to the end is the whole.
+pub to-the-end : (s e : List ℕ) (next : ℕ) → length s ≤ next → Part s 0 e next → s ≡ e
+to-the-end s e next l p = p .bytes ∙ (ap (λ (r : List ℕ). e ++ r) (drop-of-length-le s {i = next} l) ∙ append-nil e)
 
 pub bytes-part : (n at : ℕ) (s : List ℕ) → Bytes s → Bytes (take n (drop at s))
 unfolding Bytes

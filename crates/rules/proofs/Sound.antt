@@ -2,12 +2,12 @@
 -- and version because they are numbers read from their places. Assumes nothing.
 use mathlib.Core.Path.{_≡_, refl, sym, ap, ap₂, subst, _∙_}
 use mathlib.Core.Bool.{true, false}
-use mathlib.Core.List.{List, [], _∷_, _++_, append-nil, map}
+use mathlib.Core.List.{List, [], _∷_, _++_, map}
 use mathlib.Core.Option.{Option, none, some, Option·map}
 use Prim.Native.Nat.{ℕ, zero, suc, _+_, _-_, _^_, _≤_, _<_}
 use native.Mathlib.Omega.{arith}
 use lib.Dec.{ltb}
-use lib.ListN.{length, take, drop, drop-of-length-le}
+use lib.ListN.{length, take, drop}
 use borrow.Author.Tests.{ltb-true, ltb-false}
 use Rattle.wire.specs.Integers.{Bytes, digits, bigEndian}
 use Rattle.wire.proofs.Widths.{integers}
@@ -23,7 +23,7 @@ use Rattle.rules.specs.Exactness.{Starts}
 use Rattle.rules.proofs.Gives.{Gives, check, after, also, frame-cases}
 use Rattle.rules.proofs.Inside.{inside-content}
 use Rattle.rules.proofs.Listed.{itself, wide, wideRow, both, wide-row}
-use Rattle.rules.proofs.Parts.{Part, nothing, joined, there, number-part, length-part, part-of-part, bytes-part}
+use Rattle.rules.proofs.Parts.{Part, nothing, joined, there, to-the-end, number-part, length-part, part-of-part, bytes-part}
 use Rattle.rules.proofs.SoundFields.{Sound, RowSound, sound-unsigned, sound-signed, sound-string, sound-specification, sound-list}
 use Rattle.rules.proofs.SoundChunks.{sound-chunk}
 
@@ -57,10 +57,7 @@ sound-content : (row : Row) (c : List ℕ) → Bytes c → wideRow row ≡ true 
 unfolding readContent
 sound-content row c b w =
     after (ContentSound c row) (RowSound c b row 0) (readRow row c 0) _ (sound-row row c b 0 w (omega arith)) (λ fs last p.
-    check (ContentSound c row) (ltb last (length c)) 11 last _ (λ e. (p .0, ends (encodeRow row (map (valueIn c) fs)) last (ltb-false _ _ e) (p .1))))
-  where
-    ends : (e : List ℕ) (last : ℕ) → length c ≤ last → Part c 0 e last → c ≡ e
-    ends e last l p = p .bytes ∙ ap (λ (r : List ℕ). e ++ r) (drop-of-length-le c {i = last} l) ∙ append-nil e
+    check (ContentSound c row) (ltb last (length c)) 11 last _ (λ e. (p .0, to-the-end c (encodeRow row (map (valueIn c) fs)) last (ltb-false _ _ e) (p .1))))
 
 -- A value at a place in the content is the value further on in the frame.
 module _ (s : List ℕ) (m : ℕ) where

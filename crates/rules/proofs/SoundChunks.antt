@@ -24,7 +24,7 @@ use Rattle.rules.proofs.Parts.{Part, joined, there, taken, number-part,
 use Rattle.rules.proofs.SoundFields.{Sound, Piece, Pieced, sound-repeated, signed-there}
 
 -- Types are 0, 1, 2.
-types : (z : ℤ) → isChunkType z ≡ true → (z ≡ pos 0) ⊎ ((z ≡ pos 1) ⊎ (z ≡ pos 2))
+pub types : (z : ℤ) → isChunkType z ≡ true → (z ≡ pos 0) ⊎ ((z ≡ pos 1) ⊎ (z ≡ pos 2))
 types (pos zero) e = inl refl
 types (pos (suc zero)) e = inr (inl refl)
 types (pos (suc (suc zero))) e = inr (inr refl)
@@ -32,7 +32,7 @@ types (pos (suc (suc (suc n)))) e = absurd (let h : suc (suc (suc n)) ≤ 2 = le
 types (negsuc k) e = absurd (subst (λ (t : Bool). cond t ⊥ Unit) e tt)
 
 module _ (s : List ℕ) (b : Bytes s) where
-  sound-entry : (at : ℕ) → at ≤ length s → Gives (Piece s b Entry at) (readEntry s at)
+  pub sound-entry : (at : ℕ) → at ≤ length s → Gives (Piece s b Entry at) (readEntry s at)
   unfolding readEntry
   sound-entry at _ =
       after-number (Piece s b Entry at) 4 s at _ (λ h.

@@ -24,10 +24,14 @@ use Rattle.rules.specs.Reading.{readUnsigned, readSigned, readBody, read
 use Rattle.rules.proofs.Gives.{Gives, check, choice, after, after-number, weaker}
 use Rattle.rules.proofs.Parts.{Part, nothing, joined, there, taken, number-part, length-part}
 
-valid-bytes : (form : Form) (b : List ℕ) → tooLong form (length b) ≡ false → not (isText form b) ≡ false → ValidBytes form b
+pub valid-bytes : (form : Form) (b : List ℕ) → tooLong form (length b) ≡ false → not (isText form b) ≡ false → ValidBytes form b
 valid-bytes Text b t u = not-false _ u
 valid-bytes Reference b t u = (ltb-false _ _ t, not-false _ u)
 valid-bytes Raw b t u = tt
+
+-- The bytes of an element of a list.
+abbrev pub Element : Row → List ℕ → Type 0
+Element row a = (vs : List Value) × ValidRow row vs × (a ≡ encodeRow row vs)
 
 module _ (s : List ℕ) (b : Bytes s) where
   -- A field that was read from a place on.
@@ -142,25 +146,21 @@ module _ (s : List ℕ) (b : Bytes s) where
   abbrev pub RowSound : Row → ℕ → List (Field Place) → ℕ → Type 0
   RowSound row at fs next = ValidRow row (map (valueIn s) fs) × Part s at (encodeRow row (map (valueIn s) fs)) next
 
-  -- The elements of a list.
-  abbrev Element : Row → List ℕ → Type 0
-  Element row a = (vs : List Value) × ValidRow row vs × (a ≡ encodeRow row vs)
+  pub sound-element : (row : Row) → ((at : ℕ) → at ≤ length s → Gives (RowSound row at) (readRow row s at)) → (at : ℕ) → at ≤ length s → Gives (Piece (Element row) at) (readRow row s at)
+  sound-element row g at h =
+      weaker (RowSound row at) (Piece (Element row) at) (readRow row s at)
+      (λ fs next r. (encodeRow row (map (valueIn s) fs), (map (valueIn s) fs, r .0, refl), r .1))
+      (g at h)
 
   pub sound-list : (row : Row) → ((at : ℕ) → at ≤ length s → Gives (RowSound row at) (readRow row s at)) → (at : ℕ) → Gives (Sound (list row) at) (readList (λ t from. readRow row t from) s at)
   unfolding readList Valid
   sound-list row g at =
       after (Sound (list row) at) (λ n next. Length 4 n × Part s at (digits 4 n) next) (readCount s at) _ (sound-count at) (λ n next c.
       after (Sound (list row) at) (Pieced (Element row) n next) (repeated (λ t from. readRow row t from) n s next) _
-      (sound-repeated (Element row) (λ t from. readRow row t from) element n next (c .1 .within))
+      (sound-repeated (Element row) (λ t from. readRow row t from) (sound-element row g) n next (c .1 .within))
       (λ _ last p.
       let t : take (last - next) (drop next s) ≡ p .0 = taken s next last (last - next) (p .0) (p .2) (ends next (p .0) last (p .2)) in
       ((p .0, ap (elements n) t, c .0, p .1), subst (λ (r : List ℕ). Part s at (digits 4 n ++ r) last) (sym t) (joined s at next last (digits 4 n) (p .0) (c .1) (p .2)))))
     where
-      element : (at : ℕ) → at ≤ length s → Gives (Piece (Element row) at) (readRow row s at)
-      element at h =
-          weaker (RowSound row at) (Piece (Element row) at) (readRow row s at)
-          (λ fs next r. (encodeRow row (map (valueIn s) fs), (map (valueIn s) fs, r .0, refl), r .1))
-          (g at h)
-
       ends : (next : ℕ) (e : List ℕ) (last : ℕ) → Part s next e last → next + (last - next) ≡ last
       ends next e last p = omega (arith, p .long)
