@@ -2,6 +2,10 @@
 pub mod MarkedCases
 pub mod Numbers
 pub mod Bounds
+pub mod Appended
+pub mod Beyond
+pub mod Complete
+pub mod WriteField
 pub mod Parts
 pub mod Gives
 pub mod Inside
