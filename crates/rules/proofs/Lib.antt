@@ -13,3 +13,4 @@ pub mod SoundFields
 pub mod SoundChunks
 pub mod Listed
 pub mod Sound
+pub mod ReadWrite
