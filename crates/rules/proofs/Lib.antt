@@ -2,10 +2,6 @@
 pub mod MarkedCases
 pub mod Numbers
 pub mod Bounds
-pub mod Appended
-pub mod Beyond
-pub mod Complete
-pub mod WriteField
 pub mod Parts
 pub mod Gives
 pub mod Inside
@@ -13,4 +9,8 @@ pub mod SoundFields
 pub mod SoundChunks
 pub mod Listed
 pub mod Sound
+pub mod Appended
+pub mod Beyond
+pub mod Complete
+pub mod WriteField
 pub mod ReadWrite
