@@ -354,6 +354,9 @@ rows-hold (l ∷ ls) k v h = by (eqb k (l .key) && eqb v (l .version)) (both-tru
     by true h more = both-true (ltb (l .key) (256 ^ 2) && ltb (l .version) (256 ^ 2)) (chunkLastIn true (l .row)) (h .0) .1
     by false h more = more (h .1)
 
+pub row-chunk-last : (k v : ℕ) → chunkLastIn true (rowOf k v) ≡ true
+row-chunk-last k v = rows-hold table k v table-holds
+
 -- A key and a version hold in two bytes.
 abbrev TwoBytes : Decision → Type 0
 TwoBytes (layout k v) = (k < 256 ^ 2) × (v < 256 ^ 2)
@@ -454,7 +457,7 @@ complete s limit v h =
     part = let e : size' - 4 ≡ length c = omega arith in rw e (stands-bytes c (h .rest) (version .1))
 
     r : (fs : List (Field Place)) × (readContent row c ≡ got fs (length c)) × (map (valueIn c) fs ≡ v .content) × PlacesEndBy (length c) fs
-    r = content-read row (v .content) (rows-hold table (v .key) (v .version) table-holds) (h .valid .content)
+    r = content-read row (v .content) (row-chunk-last (v .key) (v .version)) (h .valid .content)
 
     fields : Fields Place
     fields = record { key = v .key; version = v .version; content = map (overPlaces (further 8)) (r .0) }

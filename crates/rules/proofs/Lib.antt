@@ -1,9 +1,9 @@
 -- What is proved of the rules.
 pub mod MarkedCases
 pub mod Numbers
+pub mod Gives
 pub mod Bounds
 pub mod Parts
-pub mod Gives
 pub mod Inside
 pub mod SoundFields
 pub mod SoundChunks
@@ -13,3 +13,4 @@ pub mod Appended
 pub mod Beyond
 pub mod Complete
 pub mod WriteField
+pub mod ReadWrite
