@@ -9,8 +9,9 @@ pub mod SoundFields
 pub mod SoundChunks
 pub mod Listed
 pub mod Sound
-pub mod Appended
 pub mod Beyond
+pub mod CompleteFields
+pub mod CompleteChunks
 pub mod Complete
 pub mod WriteField
 pub mod ReadWrite
