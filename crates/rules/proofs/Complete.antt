@@ -12,17 +12,17 @@ use Rattle.protocol.specs.Fields.{Field, Fields, overPlaces, valueIn, valuesIn,
 use Rattle.protocol.specs.Kinds.{Kind, unsigned, signed, string, specification, list, chunk, Row, end, _·_}
 use Rattle.protocol.specs.Table.{rowOf}
 use Rattle.protocol.specs.declared.place.Place.{Place}
-use Rattle.rules.specs.Exactness.{Starts}
+use Rattle.rules.specs.Exactness.{Starts, Exact}
 use Rattle.rules.specs.Grammar.{Value, encode, encodeHeader, encodeRow, sizeOf, encodeFrame, Valid, ValidRow}
 use Rattle.rules.specs.Outcome.{Outcome, got}
 use Rattle.rules.specs.Reading.{readChunk, readField, readRow, readContent, frame, readLayout, readDecided, readSized, readFrame}
 use Rattle.rules.proofs.CompleteChunks.{chunk-read, next-number}
 use Rattle.rules.proofs.CompleteFields.{Reads, PieceRead, unsigned-read, signed-read, string-read, specification-read, list-read}
 use Rattle.rules.proofs.Gives.{Gives}
-use Rattle.rules.proofs.Inside.{inside-content}
+use Rattle.rules.proofs.Inside.{inside, inside-content}
 use Rattle.rules.proofs.Listed.{both, differ, isEnd, chunkLast, chunkLastIn, chunk-last-row, itself}
 use Rattle.rules.proofs.Parts.{Part, first-part, second-part, starting, taken}
-use Rattle.rules.proofs.Sound.{values-further-on}
+use Rattle.rules.proofs.Sound.{values-further-on, sound}
 use Rattle.rules.proofs.SoundFields.{Element}
 
 -- A row's fields are read up to a place.
@@ -104,7 +104,7 @@ unfolding readFrame readSized readDecided readLayout
 complete s limit v h = (
   fields,
   rw (le-ltb (length s) 4 (omega (arith, enough)), first .0, h .within, le-ltb size 4 (omega arith), le-ltb (length s) (size + 4) enough, second .0, third .0, h .valid .listed, r .1),
-  ap (λ vs. record { key = v .key; version = v .version; content = vs }) (sym (values-further-on s (size - 4) (r .0) inside) ∙ r .2),
+  ap (λ vs. record { key = v .key; version = v .version; content = vs }) (sym (values-further-on s (size - 4) (r .0) in-content) ∙ r .2),
 )
   where
     row : Row
@@ -141,10 +141,13 @@ complete s limit v h = (
     r : (fs : List (Field Place)) × (readContent row content ≡ got fs (length content)) × (map (valueIn content) fs ≡ v .content)
     r = content-read row (v .content) content same (chunk-last-row (v .key) (v .version)) (h .valid .content)
 
-    inside : PlacesEndBy (size - 4) (r .0)
-    inside =
+    in-content : PlacesEndBy (size - 4) (r .0)
+    in-content =
         let l : length content ≡ size - 4 = ap length same ∙ omega arith in
         subst (λ n. PlacesEndBy n (r .0)) l (subst (Gives (λ fs _. PlacesEndBy (length content) fs)) (r .1) (inside-content content row))
 
     fields : Fields Place
     fields = record { key = v .key; version = v .version; content = map (overPlaces (further 8)) (r .0) }
+
+pub exact : Exact
+exact = record { sound = sound; complete = complete; inside = inside }
