@@ -15,3 +15,4 @@ pub mod CompleteChunks
 pub mod Complete
 pub mod WriteField
 pub mod ReadWrite
+pub mod WriteRead

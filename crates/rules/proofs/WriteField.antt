@@ -174,7 +174,7 @@ fits-signed : (n : ℕ) (z : ℤ) → fitsSigned n z ≡ true → two's.Signed n
 fits-signed n (pos x) e = ltb-true x (256 ^ n / 2) e
 fits-signed n (negsuc x) e = ltb-true x (256 ^ n / 2) e
 
-neither : (a b : Bool) → (a || b) ≡ false → (a ≡ false) × (b ≡ false)
+pub neither : (a b : Bool) → (a || b) ≡ false → (a ≡ false) × (b ≡ false)
 neither true b e = absurd (differ (sym e))
 neither false b e = (refl, e)
 
