@@ -4,7 +4,7 @@
 use mathlib.Core.Path.{_≡_, refl, sym, _∙_, ap, subst}
 use mathlib.Core.Bool.{Bool, true, false, cond, not, _&&_, _||_}
 use mathlib.Core.List.{List, [], _∷_, _++_, append-nil, map, head-eq-of-cons-eq, tail-eq-of-cons-eq}
-use mathlib.Core.Logic.{_⊎_, inl, inr}
+use mathlib.Core.Logic.{inl, inr}
 use mathlib.Core.Option.{Option, none, some, Option·map}
 use Prim.Native.Nat.{ℕ, _+_, _-_, _/_, _^_, _≤_, _<_}
 use native.Mathlib.Omega.{arith}
@@ -24,7 +24,7 @@ use Rattle.protocol.specs.declared.offset.OffsetSpecification.{OffsetSpecificat
 use Rattle.protocol.specs.declared.offset.OffsetSpecification.the-variants.{None, First, Last, Next, Offset, Timestamp}
 use Rattle.protocol.specs.declared.place.Place.{Place}
 use Rattle.rules.proofs.Complete.{elements-read}
-use Rattle.rules.proofs.CompleteChunks.{type-fits, entry-read}
+use Rattle.rules.proofs.CompleteChunks.{KnownType, type-fits, entry-read}
 use Rattle.rules.proofs.CompleteFields.{PieceRead, not-long, is-text, pieces-read}
 use Rattle.rules.proofs.Gives.{Gives}
 use Rattle.rules.proofs.Listed.{both, differ, isEnd, wide, wideRow, chunkLast, chunkLastIn}
@@ -43,6 +43,7 @@ use Rattle.rules.specs.Writing.{Encoding, wrote, refuse, checked, follow
 place-length : (src : List ℕ) (p : Place) → p .at + p .len ≤ length src → length (bytesAt src p) ≡ p .len
 place-length src p h = length-part (p .len) (p .at) src h
 
+-- The writer's checks, where they are passed.
 inside-source : (src : List ℕ) (p : Place) → p .at + p .len ≤ length src → outside p src ≡ false
 inside-source src p h = le-ltb (length src) (p .at + p .len) h
 
@@ -109,7 +110,7 @@ header-fits h v =
       lt-ltb (h .reserved) (256 ^ 3) (v .reserved),
     )
 
-is-type : (z : ℤ) → (z ≡ pos 0) ⊎ ((z ≡ pos 1) ⊎ (z ≡ pos 2)) → isChunkType z ≡ true
+is-type : (z : ℤ) → KnownType z → isChunkType z ≡ true
 is-type z (inl e) = rw e
 is-type z (inr (inl e)) = rw e
 is-type z (inr (inr e)) = rw e
@@ -126,15 +127,15 @@ writes-chunk src h p i v =
     same : p .len ≡ h .«data_length»
     same = sym (place-length src p i) ∙ v .asLong
 
-    by : (h .«chunk_type» ≡ pos 0) ⊎ ((h .«chunk_type» ≡ pos 1) ⊎ (h .«chunk_type» ≡ pos 2)) → cond (hasEntries (h .«chunk_type»)) (checked (not (eqb (h .records) (h .entries))) valueNotAdmitted (usedUp (repeated readEntry (h .entries) b 0) b (wrote (encodeHeader h ++ b)))) (wrote (encodeHeader h ++ b)) ≡ wrote (encodeHeader h ++ b)
+    by : KnownType (h .«chunk_type») → cond (hasEntries (h .«chunk_type»)) (checked (not (eqb (h .records) (h .entries))) valueNotAdmitted (usedUp (repeated readEntry (h .entries) b 0) b (wrote (encodeHeader h ++ b)))) (wrote (encodeHeader h ++ b)) ≡ wrote (encodeHeader h ++ b)
     by (inl e) =
         rw (ap hasEntries e, eq-eqb (h .records) (h .entries) (v .entries e .0))
         (uses-up Entry readEntry b (entry-read b) (h .entries) (v .entries e .1) (wrote (encodeHeader h ++ b)))
     by (inr (inl e)) = rw (ap hasEntries e)
     by (inr (inr e)) = rw (ap hasEntries e)
 
-writes-field : (k : Kind) (src : List ℕ) (f : Field Place) (last : Bool) → chunkLast last k ≡ true → EndsBy (length src) (f .octets) → Valid k (valueIn src f) → writeField k src f ≡ wrote (encode k (valueIn src f))
-unfolding Valid chunkLast
+pub writes-field : (k : Kind) (src : List ℕ) (f : Field Place) (last : Bool) → chunkLast last k ≡ true → EndsBy (length src) (f .octets) → Valid k (valueIn src f) → writeField k src f ≡ wrote (encode k (valueIn src f))
+unfolding Valid
 writes-field (unsigned n most) src f last c i (e, m, l) = writes-unsigned n most (f .number) m l
 writes-field (signed n) src f last c i (e, l) = writes-signed n (f .integer) l
 writes-field (string form nullable) src f last c i (e, v) = writes-string form nullable src (f .octets) i v
@@ -148,9 +149,9 @@ writes-field chunk src f last c i (b, e, v) =
     writes-chunk src (f .header) (placeOf (f .octets)) (at .1) (subst (ValidChunk (f .header)) (sym (at .0)) v)
     ∙ ap (λ t. wrote (encodeHeader (f .header) ++ t)) (sym (at .2))
 
--- What a row's fields are: as many as it has.
+-- The fields of a row, one behind another.
 pub writes-row : (row : Row) (src : List ℕ) (fs : List (Field Place)) (last : Bool) → chunkLastIn last row ≡ true → PlacesEndBy (length src) fs → ValidRow row (map (valueIn src) fs) → writeRow row src fs ≡ wrote (encodeRow row (map (valueIn src) fs))
-unfolding ValidRow chunkLastIn
+unfolding ValidRow
 writes-row end src fs last c i v = refl
 writes-row (k · row) src [] last c i v = refl
 writes-row (k · row) src (f ∷ fs) last c i (v, vs, e, valid, more) =
