@@ -16,6 +16,7 @@ use Rattle.wire.specs.Integers.{Bytes, digits}
 use Rattle.wire.specs.Signed as two's
 use Rattle.protocol.specs.Fields.{Field, number, integer, elements, bytesAt, valueIn, EndsBy, PlacesEndBy}
 use Rattle.protocol.specs.Fields as F
+use Rattle.protocol.specs.Frames.{OfKind, OfRow}
 use Rattle.protocol.specs.Kinds.{lengthWidth, Kind, unsigned, signed, string, specification, list, chunk, Row, end, _·_}
 use Rattle.protocol.specs.Refusals.{fieldCut, badLength, notUtf8, referenceTooLong, valueNotAdmitted, bytesLeft}
 use Rattle.protocol.specs.declared.chunk.ChunkHeader.{ChunkHeader}
@@ -179,15 +180,6 @@ pub neither : (a b : Bool) → (a || b) ≡ false → (a ≡ false) × (b ≡ fa
 neither true b e = absurd (differ (sym e))
 neither false b e = (refl, e)
 
--- A field of a kind, as its maker builds it.
-abbrev pub Formed : Kind → Field Place → Type 0
-Formed (unsigned n most) f = f ≡ number (f .number)
-Formed (signed n) f = f ≡ integer (f .integer)
-Formed (string form nullable) f = f ≡ F.string (f .octets)
-Formed (specification admitsNone) f = f ≡ F.offset (f .offset)
-Formed (list row) f = (p : Place) × (f ≡ elements (f .number) p)
-Formed chunk f = (p : Place) × (f ≡ F.chunk (f .header) p)
-
 written-unsigned : (n most x : ℕ) (b : List ℕ) → writeUnsigned n most x ≡ wrote b → (x ≤ most) × (x < 256 ^ n) × (b ≡ digits n x)
 written-unsigned n most x b e =
     let p = passed (ltb most x || leb (256 ^ n) x) valueNotAdmitted (wrote (digits n x)) b e in
@@ -325,7 +317,7 @@ written-chunk src bytes h p b e =
 abbrev pub Written : List ℕ → Kind → Field Place → List ℕ → Type 0
 Written src k f b = EndsBy (length src) (f .octets) × Valid k (valueIn src f) × (b ≡ encode k (valueIn src f))
 
-pub written-field : (k : Kind) (src : List ℕ) → Bytes src → (f : Field Place) (b : List ℕ) → wide k ≡ true → Formed k f → writeField k src f ≡ wrote b → Written src k f b
+pub written-field : (k : Kind) (src : List ℕ) → Bytes src → (f : Field Place) (b : List ℕ) → wide k ≡ true → OfKind k f → writeField k src f ≡ wrote b → Written src k f b
 unfolding Valid
 written-field (unsigned n most) src bytes f b w e h =
     let t = written-unsigned n most (f .number) b h in
@@ -348,19 +340,12 @@ written-field chunk src bytes f b w (p, e) h =
     let t = written-chunk src bytes (f .header) p b (ap (λ q. writeChunk src (f .header) (placeOf q)) (sym o) ∙ h) in
     (rw o (t .0), (bytesAt src p, ap (valueIn src) e, t .1), rw o (t .2))
 
--- As many fields as a row has, each of its kind.
-abbrev pub FormedRow : Row → List (Field Place) → Type 0
-FormedRow end [] = Unit
-FormedRow end (f ∷ fs) = ⊥
-FormedRow (k · row) [] = ⊥
-FormedRow (k · row) (f ∷ fs) = Formed k f × FormedRow row fs
-
 both-written : (a c : Encoding) (b : List ℕ) → followed a c ≡ wrote b → (x : List ℕ) × (y : List ℕ) × (a ≡ wrote x) × (c ≡ wrote y) × (b ≡ x ++ y)
 both-written (wrote x) (wrote y) b e = (x, y, refl, refl, same-bytes (x ++ y) b e)
 both-written (wrote x) (refuse n) b e = absurd (let z : _≡_ {A = ℕ} 0 1 = cc in omega arith)
 both-written (refuse n) c b e = absurd (let z : _≡_ {A = ℕ} 0 1 = cc in omega arith)
 
-pub written-row : (row : Row) (src : List ℕ) → Bytes src → (fs : List (Field Place)) (b : List ℕ) → wideRow row ≡ true → FormedRow row fs → writeRow row src fs ≡ wrote b → PlacesEndBy (length src) fs × ValidRow row (map (valueIn src) fs) × (b ≡ encodeRow row (map (valueIn src) fs))
+pub written-row : (row : Row) (src : List ℕ) → Bytes src → (fs : List (Field Place)) (b : List ℕ) → wideRow row ≡ true → OfRow row fs → writeRow row src fs ≡ wrote b → PlacesEndBy (length src) fs × ValidRow row (map (valueIn src) fs) × (b ≡ encodeRow row (map (valueIn src) fs))
 unfolding ValidRow
 written-row end src bytes [] b w h e = (tt, refl, same-bytes [] b e)
 written-row end src bytes (f ∷ fs) b w h e = absurd h

@@ -4,4 +4,6 @@ pub mod Reading
 pub mod Grammar
 pub mod Exactness
 pub mod Writing
+pub mod RoundTrips
+pub mod Demand2
 pub mod Cases
