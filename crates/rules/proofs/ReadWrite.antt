@@ -17,7 +17,7 @@ use Rattle.protocol.specs.Frames.{fieldsOf}
 use Rattle.protocol.specs.Table.{rowOf}
 use Rattle.protocol.specs.declared.place.Place.{Place}
 use Rattle.rules.specs.Grammar.{encodeRow, sizeOf, encodeFrame, ValidFrame}
-use Rattle.rules.specs.Reading.{frame, overLimit, readFrame}
+use Rattle.rules.specs.Reading.{overLimit}
 use Rattle.rules.specs.RoundTrips.{writes, ReadThenWrite, WellFormedIsWritten}
 use Rattle.rules.specs.Writing.{wrote, length, writeEncoded, writeDecided, writeFrame}
 use Rattle.rules.specs.Exactness.{Starts, frameLength}
@@ -38,7 +38,7 @@ splice-start out b = let e : 0 + len b ≡ len b = omega arith in ap (λ n. b ++
 -- Behind the fields, where Size holds in four bytes and within the limit, and the output has room.
 writes-encoded : (k v : ℕ) (c : List ℕ) (limit : ℕ) (out : List ℕ) → 4 + len c < 256 ^ 4 → overLimit limit (4 + len c) ≡ false → 8 + len c ≤ len out → writeEncoded k v (wrote c) limit out ≡ writes (digits 4 (4 + len c) ++ (digits 2 k ++ (digits 2 v ++ c))) out
 writes-encoded k v c limit out h o l =
-    rw (le-ltb 0xffff_ffff (4 + len c) (omega (arith, h)), o, le-ltb (len out) (8 + len c) l)
+    simp (le-ltb 0xffff_ffff (4 + len c) (omega (arith, h)), o, le-ltb (len out) (8 + len c) l)
     (ap₂ (λ n o. record { answer = length n; out = o }) (sym (frame-length (4 + len c) k v c)) (splice-start out b))
   where
     b : List ℕ

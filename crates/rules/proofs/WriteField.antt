@@ -6,7 +6,7 @@ use mathlib.Core.Bool.{Bool, true, false, cond, not, _&&_, _||_}
 use mathlib.Core.List.{List, [], _∷_, _++_, append-nil, map, head-eq-of-cons-eq, tail-eq-of-cons-eq}
 use mathlib.Core.Logic.{inl, inr}
 use mathlib.Core.Option.{Option, none, some, Option·map}
-use Prim.Native.Nat.{ℕ, _+_, _-_, _/_, _^_, _≤_, _<_}
+use Prim.Native.Nat.{ℕ, _+_, _/_, _^_, _≤_, _<_}
 use native.Mathlib.Omega.{arith}
 use lib.Dec.{eqb, ltb, leb}
 use lib.IntN.{ℤ, pos, negsuc}
@@ -14,8 +14,7 @@ use lib.ListN.{length}
 use borrow.Author.Tests.{lt-ltb, le-ltb, lt-leb, eq-eqb, ltb-true, ltb-false, leb-false, eqb-true, not-false}
 use Rattle.wire.specs.Integers.{Bytes, digits}
 use Rattle.wire.specs.Signed as two's
-use Rattle.protocol.specs.Fields.{Field, number, integer, elements, bytesAt, valueIn, EndsBy, PlacesEndBy}
-use Rattle.protocol.specs.Fields as F
+use Rattle.protocol.specs.Fields.{Field, bytesAt, valueIn, EndsBy, PlacesEndBy}
 use Rattle.protocol.specs.Frames.{OfKind, OfRow}
 use Rattle.protocol.specs.Kinds.{lengthWidth, Kind, unsigned, signed, string, specification, list, chunk, Row, end, _·_}
 use Rattle.protocol.specs.Refusals.{fieldCut, badLength, notUtf8, referenceTooLong, valueNotAdmitted, bytesLeft}
@@ -71,7 +70,7 @@ writes-string form nullable src (some p) i v =
 
 writes-offset : (admitsNone : Bool) (o : OffsetSpecification) → ValidOffset admitsNone o → writeOffset admitsNone o ≡ wrote (encodeOffset o)
 unfolding writeOffset
-writes-offset admitsNone None v = rw v
+writes-offset admitsNone None v = ap (λ t. checked (not t) valueNotAdmitted (wrote (digits 2 0))) v
 writes-offset admitsNone First v = refl
 writes-offset admitsNone Last v = refl
 writes-offset admitsNone Next v = refl
@@ -81,7 +80,7 @@ writes-offset admitsNone (Timestamp z) v = rw (signed-fits 8 z v)
 -- Pieces that are read up to the part's end use it up.
 uses-up : {A : Type 0} (P : List ℕ → Type 0) (element : List ℕ → ℕ → Outcome A) (part : List ℕ) → PieceRead part P element → (n : ℕ) → Pieces P n part → (r : Encoding) → usedUp (repeated element n part 0) part r ≡ r
 uses-up P element part each n pieces r =
-    rw (pieces-read part P element each n part 0 (length part) pieces (starting part part [] (sym (append-nil part))), le-ltb (length part) (length part) (omega arith))
+    simp (pieces-read part P element each n part 0 (length part) pieces (starting part part [] (sym (append-nil part))), le-ltb (length part) (length part) (omega arith))
 
 -- The place of a list or a chunk, from its bytes.
 placed : (src : List ℕ) (o : Option Place) (b : List ℕ) → Option·map (bytesAt src) o ≡ some b → EndsBy (length src) o → (bytesAt src (placeOf o) ≡ b) × (placeOf o .at + placeOf o .len ≤ length src) × (body (Option·map (bytesAt src) o) ≡ bytesAt src (placeOf o))

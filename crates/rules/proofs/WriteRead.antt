@@ -45,6 +45,19 @@ same-length n m e = cc
 no-length : (m n : ℕ) → refusal m ≡ length n → ⊥
 no-length m n e = let z : _≡_ {A = ℕ} 0 1 = cc in omega arith
 
+-- A refusal behind the fields leaves the output as it was.
+refused-encoding : (k v : ℕ) (x : Encoding) (limit : ℕ) (out : List ℕ) (n : ℕ) → writeEncoded k v x limit out .answer ≡ refusal n → writeEncoded k v x limit out .out ≡ out
+refused-encoding k v (refuse m) limit out n e = refl
+refused-encoding k v (wrote c) limit out n e = by (ltb 0xffff_ffff (4 + len c) || overLimit limit (4 + len c)) (ltb (len out) (8 + len c)) e
+  where
+    w : Writing
+    w = record { answer = length (8 + len c); out = splice out 0 (digits 4 (4 + len c) ++ (digits 2 k ++ (digits 2 v ++ c))) }
+
+    by : (t u : Bool) → cond t (unwritten frameTooLarge out) (cond u (unwritten noRoom out) w) .answer ≡ refusal n → cond t (unwritten frameTooLarge out) (cond u (unwritten noRoom out) w) .out ≡ out
+    by true u e = refl
+    by false true e = refl
+    by false false e = absurd (no-length n (8 + len c) (sym e))
+
 encoded-passed : (k v limit : ℕ) (out c : List ℕ) (n : ℕ) → writeEncoded k v (wrote c) limit out .answer ≡ length n → Passed k v limit out c n (writeEncoded k v (wrote c) limit out)
 encoded-passed k v limit out c n = by (ltb 0xffff_ffff (4 + len c) || overLimit limit (4 + len c)) refl (ltb (len out) (8 + len c)) refl
   where
@@ -58,19 +71,6 @@ encoded-passed k v limit out c n = by (ltb 0xffff_ffff (4 + len c) || overLimit 
         let r = neither (ltb 0xffff_ffff (4 + len c)) (overLimit limit (4 + len c)) p in
         let s : 4 + len c ≤ 0xffff_ffff = ltb-false 0xffff_ffff (4 + len c) (r .0) in
         record { size = omega (arith, s); within = r .1; answer = same-length n (8 + len c) e; room = ltb-false (len out) (8 + len c) q; holds = refl }
-
--- A refusal behind the fields leaves the output as it was.
-refused-encoding : (k v : ℕ) (x : Encoding) (limit : ℕ) (out : List ℕ) (n : ℕ) → writeEncoded k v x limit out .answer ≡ refusal n → writeEncoded k v x limit out .out ≡ out
-refused-encoding k v (refuse m) limit out n e = refl
-refused-encoding k v (wrote c) limit out n e = by (ltb 0xffff_ffff (4 + len c) || overLimit limit (4 + len c)) (ltb (len out) (8 + len c)) e
-  where
-    w : Writing
-    w = record { answer = length (8 + len c); out = splice out 0 (digits 4 (4 + len c) ++ (digits 2 k ++ (digits 2 v ++ c))) }
-
-    by : (t u : Bool) → cond t (unwritten frameTooLarge out) (cond u (unwritten noRoom out) w) .answer ≡ refusal n → cond t (unwritten frameTooLarge out) (cond u (unwritten noRoom out) w) .out ≡ out
-    by true u e = refl
-    by false true e = refl
-    by false false e = absurd (no-length n (8 + len c) (sym e))
 
 module _ (f : Fields Place) (src : List ℕ) (limit : ℕ) (out : List ℕ) where
   -- What a frame that was written passed, and what the output then holds.
