@@ -1,0 +1,2 @@
+-- Why the listing's code does what its definitions say.
+pub mod Texts
