@@ -10,8 +10,10 @@ pub mod SoundChunks
 pub mod Listed
 pub mod Heads
 pub mod Sound
-pub mod Appended
 pub mod Beyond
+pub mod CompleteFields
+pub mod CompleteChunks
 pub mod Complete
 pub mod WriteField
 pub mod ReadWrite
+pub mod WriteRead

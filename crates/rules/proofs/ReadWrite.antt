@@ -19,7 +19,7 @@ use Rattle.rules.specs.Grammar.{encodeRow, sizeOf, encodeFrame, ValidFra
 use Rattle.rules.specs.Reading.{frame, overLimit, readFrame}
 use Rattle.rules.specs.Writing.{wrote, length, writeEncoded, writeDecided, writeFrame, Writing}
 use Rattle.rules.specs.Exactness.{Starts, frameLength}
-use Rattle.rules.proofs.Complete.{row-chunk-last}
+use Rattle.rules.proofs.Listed.{chunk-last-row}
 use Rattle.rules.proofs.WriteField.{writes-row}
 use Rattle.rules.proofs.Inside.{inside}
 use Rattle.rules.proofs.Sound.{sound}
@@ -37,7 +37,7 @@ pub writes-frame : (f : Fields Place) (src : List ℕ) (limit : ℕ) (out : List
 unfolding writeFrame
 writes-frame f src limit out v i o l =
     ap (λ d. writeDecided d f src limit out) (v .listed)
-    ∙ ap (λ e. writeEncoded (f .key) (f .version) e limit out) (writes-row (rowOf (f .key) (f .version)) src (f .content) true (row-chunk-last (f .key) (f .version)) i (v .content))
+    ∙ ap (λ e. writeEncoded (f .key) (f .version) e limit out) (writes-row (rowOf (f .key) (f .version)) src (f .content) true (chunk-last-row (f .key) (f .version)) i (v .content))
     ∙ writes-encoded (f .key) (f .version) c limit out (v .size) o room
     ∙ ap (λ n. written out n (encodeFrame (valuesIn src f))) eight
   where

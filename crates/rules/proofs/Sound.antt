@@ -2,7 +2,7 @@
 -- and version because they are numbers read from their places. Assumes nothing.
 use mathlib.Core.Path.{_≡_, refl, sym, ap, ap₂, subst, _∙_}
 use mathlib.Core.Bool.{true, false}
-use mathlib.Core.List.{List, [], _∷_, _++_, map}
+use mathlib.Core.List.{List, [], _∷_, map}
 use mathlib.Core.Option.{Option, none, some, Option·map}
 use Prim.Native.Nat.{ℕ, zero, suc, _+_, _-_, _^_, _≤_, _<_}
 use native.Mathlib.Omega.{arith}
@@ -65,7 +65,7 @@ module _ (s : List ℕ) (m : ℕ) where
   further-on none h = refl
   further-on (some p) h = ap some (part-of-part (p .len) (p .at) m 8 s h)
 
-  values-further-on : (fs : List (Field Place)) → PlacesEndBy m fs → map (valueIn (take m (drop 8 s))) fs ≡ map (valueIn s) (map (overPlaces (further 8)) fs)
+  pub values-further-on : (fs : List (Field Place)) → PlacesEndBy m fs → map (valueIn (take m (drop 8 s))) fs ≡ map (valueIn s) (map (overPlaces (further 8)) fs)
   values-further-on [] h = refl
   values-further-on (f ∷ fs) h =
       ap (λ (o : Option (List ℕ)). record { number = f .number; integer = f .integer; octets = o; offset = f .offset; header = f .header } ∷ map (valueIn (take m (drop 8 s))) fs) (further-on (f .octets) (h .0))
@@ -112,7 +112,7 @@ module _ (s : List ℕ) (limit : ℕ) (b : Bytes s) where
       c = take (size - 4) (drop 8 s)
 
       i : (k ≡ bigEndian 2 s 4) × (v ≡ bigEndian 2 s 6)
-      i = itself (bigEndian 2 s 4) (bigEndian 2 s 6) k v e
+      i = let t = itself (bigEndian 2 s 4) (bigEndian 2 s 6) k v e in (t .0, t .1)
 
 pub sound : (s : List ℕ) (limit : ℕ) (f : Fields Place) → Bytes s → readFrame s limit ≡ frame f → Starts s limit (valuesIn s f)
 sound s limit f b e =
