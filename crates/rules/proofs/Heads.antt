@@ -23,7 +23,7 @@ Head s (refusal n at) = Unit
 pub head : (s : List ℕ) (limit : ℕ) → Head s (readFrame s limit)
 unfolding readLayout
 head s limit =
-    frame-cases (Head s) (λ _. tt) (λ _ _. tt) s limit (λ _ l w k v e. by k v (omega (arith, l)) w (itself _ _ _ _ e) (readContent (rowOf k v) (take (bigEndian 4 s 0 - 4) (drop 8 s))))
+    frame-cases (Head s) (λ _. tt) (λ _ _. tt) s limit (λ _ l w k v e. by k v (omega (arith, l)) w (let i = itself _ _ _ _ e in (i .0, i .1)) (readContent (rowOf k v) (take (bigEndian 4 s 0 - 4) (drop 8 s))))
   where
     by : (k v : ℕ) → 8 ≤ frameLength s → frameLength s ≤ length s → (k ≡ bigEndian 2 s 4) × (v ≡ bigEndian 2 s 6) → (o : Outcome (List (Field Place))) → Head s (readingOf k v o)
     by k v l w e (got fs last) = (l, w, e .0, e .1)
