@@ -8,6 +8,7 @@ pub mod Inside
 pub mod SoundFields
 pub mod SoundChunks
 pub mod Listed
+pub mod Heads
 pub mod Sound
 pub mod Beyond
 pub mod CompleteFields
