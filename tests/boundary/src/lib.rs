@@ -10,6 +10,14 @@ pub use archive::Archive;
 pub use behind::Reference;
 pub use reference::{ElementSlots, Frame, Ledger};
 
+/// The library under test, if its archive was built before this.
+pub fn archive() -> Option<&'static dyn Boundary> {
+    #[cfg(archive)]
+    return Some(&Archive);
+    #[cfg(not(archive))]
+    None
+}
+
 /// The functions of the header, over slices.
 pub trait Boundary {
     fn read(&self, bytes: &[u8], limit: u32, frame: &mut Frame) -> u64;
