@@ -2,9 +2,8 @@
 
 use std::convert::Infallible;
 
+use random::Random;
 use reference::{Element, Fields, Null, Text, content};
-
-use crate::random::Random;
 
 /// A frame and its marks: every number in it that is worth altering (lengths, counts, types, sizes of entries).
 pub struct Generated {

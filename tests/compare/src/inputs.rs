@@ -1,12 +1,12 @@
 //! The inputs: for each layout frames that are well formed, then damaged in every way that the rules speak of.
 
 use boundary::{Boundary, Frame, Ledger, List};
+use random::Random;
 use reference::{keys, versions};
 
 use crate::comparison::{Comparison, Difference};
 use crate::generate::{self, Generated, Mark, set_size};
 use crate::outline;
-use crate::random::Random;
 
 type Done = Result<(), Difference>;
 

@@ -8,7 +8,6 @@ mod faulty;
 mod generate;
 mod inputs;
 mod outline;
-mod random;
 
 use std::process::ExitCode;
 
