@@ -37,13 +37,22 @@ fn reference_element(source: &[u8], list: List, index: u64) -> Result<ElementSlo
 }
 
 #[inline(never)]
-fn library_open_close(ledger: &mut Ledger) -> u64 {
-    Archive.credit_open(ledger, 7, 10) | Archive.credit_close(ledger, 7)
+fn library_open(ledger: &mut Ledger) -> u64 {
+    Archive.credit_open(ledger, 7, 10)
 }
 
 #[inline(never)]
-fn reference_open_close(ledger: &mut Ledger) -> Result<(), Refusal> {
-    reference::credit::open(ledger, 7, 10)?;
+fn reference_open(ledger: &mut Ledger) -> Result<(), Refusal> {
+    reference::credit::open(ledger, 7, 10)
+}
+
+#[inline(never)]
+fn library_close(ledger: &mut Ledger) -> u64 {
+    Archive.credit_close(ledger, 7)
+}
+
+#[inline(never)]
+fn reference_close(ledger: &mut Ledger) -> Result<(), Refusal> {
     reference::credit::close(ledger, 7)
 }
 
@@ -144,14 +153,16 @@ fn element_times(bytes: &[u8]) -> (f64, f64) {
 
 fn open_close_times() -> (f64, f64) {
     let (mut a, mut b) = ([0; 257], [0; 257]);
-    assert_eq!(library_open_close(&mut a), 0);
-    assert_eq!(reference_open_close(&mut b), Ok(()));
+    assert_eq!((library_open(&mut a), library_close(&mut a)), (0, 0));
+    assert_eq!((reference_open(&mut b), reference_close(&mut b)), (Ok(()), Ok(())));
     times(
         || {
-            black_box(library_open_close(black_box(&mut a)));
+            black_box(library_open(black_box(&mut a)));
+            black_box(library_close(black_box(&mut a)));
         },
         || {
-            black_box(reference_open_close(black_box(&mut b))).ok();
+            black_box(reference_open(black_box(&mut b))).ok();
+            black_box(reference_close(black_box(&mut b))).ok();
         },
     )
 }

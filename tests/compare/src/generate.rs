@@ -22,10 +22,8 @@ pub fn frame(random: &mut Random, key: u16, version: u16) -> Generated {
     let mut generator = Generator { random, bytes: vec![0; 4], marks: Vec::new() };
     generator.bytes.extend(key.to_be_bytes());
     generator.bytes.extend(version.to_be_bytes());
-    let Ok(()) = content(key, version, &mut generator);
-    let Generator { mut bytes, marks, .. } = generator;
-    set_size(&mut bytes);
-    Generated { bytes, marks }
+    let Ok(generated) = content(key, version, generator);
+    generated
 }
 
 /// Makes Size that of the bytes.
@@ -94,6 +92,7 @@ impl Generator<'_> {
 
 impl Fields for Generator<'_> {
     type Stop = Infallible;
+    type Output = Generated;
 
     fn u8(&mut self) -> Result<(), Infallible> {
         self.any(1)
@@ -212,5 +211,10 @@ impl Fields for Generator<'_> {
 
     fn unknown_version(&mut self) -> Infallible {
         unreachable!("frames are generated for listed versions")
+    }
+
+    fn finish(mut self) -> Result<Generated, Infallible> {
+        set_size(&mut self.bytes);
+        Ok(Generated { bytes: self.bytes, marks: self.marks })
     }
 }

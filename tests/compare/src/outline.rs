@@ -7,9 +7,9 @@ use reference::{Element, Fields, Null, Text, content};
 
 /// Shape and list, for every list of a frame that was read.
 pub fn lists(frame: &Frame) -> Vec<(u8, List)> {
-    let mut outline = Outline { frame, next: 2, lists: Vec::new() };
-    let Ok(()) = content(frame[0] as u16, frame[1] as u16, &mut outline);
-    outline.lists
+    let outline = Outline { frame, next: 2, lists: Vec::new() };
+    let Ok(lists) = content(frame[0] as u16, frame[1] as u16, outline);
+    lists
 }
 
 struct Outline<'a> {
@@ -27,6 +27,7 @@ impl Outline<'_> {
 
 impl Fields for Outline<'_> {
     type Stop = Infallible;
+    type Output = Vec<(u8, List)>;
 
     fn u8(&mut self) -> Result<(), Infallible> {
         self.skip(1)
@@ -80,5 +81,9 @@ impl Fields for Outline<'_> {
 
     fn unknown_version(&mut self) -> Infallible {
         unreachable!("the frame was read")
+    }
+
+    fn finish(self) -> Result<Vec<(u8, List)>, Infallible> {
+        Ok(self.lists)
     }
 }

@@ -130,18 +130,21 @@ impl Header {
         if self.records != u32::from(self.entries) {
             return Err(Fault { reason: Reason::NotAdmitted, place: 4 });
         }
-        let mut rest = data;
-        for _ in 0..self.entries {
-            match next_entry(rest) {
-                Ok((_, behind)) => rest = behind,
-                Err(reason) => return Err(Fault { reason, place: HEADER + data.len() - rest.len() }),
-            }
-        }
-        if !rest.is_empty() {
-            return Err(Fault { reason: Reason::BytesLeft, place: HEADER + data.len() - rest.len() });
-        }
-        Ok(())
+        check_entries(data, self.entries)
     }
+}
+
+/// So many entries and nothing else.
+fn check_entries(data: &[u8], entries: u16) -> Result<(), Fault> {
+    let mut rest = data;
+    let fault = |reason, rest: &[u8]| Err(Fault { reason, place: HEADER + data.len() - rest.len() });
+    for _ in 0..entries {
+        match next_entry(rest) {
+            Ok((_, behind)) => rest = behind,
+            Err(reason) => return fault(reason, rest),
+        }
+    }
+    if rest.is_empty() { Ok(()) } else { fault(Reason::BytesLeft, rest) }
 }
 
 #[inline(always)]

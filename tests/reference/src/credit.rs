@@ -35,8 +35,10 @@ pub fn close(ledger: &mut Ledger, id: u8) -> Result<(), Refusal> {
 /// Reads a received frame. A Deliver costs its subscription one credit; any other frame costs nothing.
 #[inline]
 pub fn receive(ledger: &mut Ledger, bytes: &[u8], limit: u32) -> Result<Frame, Refusal> {
-    let frame = read(bytes, limit)?;
-    if frame[0] == 0x0008 {
+    let received = read(bytes, limit);
+    if let Ok(frame) = &received
+        && frame[0] == 0x0008
+    {
         let entry = &mut ledger[frame[2] as usize];
         match *entry {
             0 => return Err(Reason::NotOpen.into()),
@@ -44,5 +46,5 @@ pub fn receive(ledger: &mut Ledger, bytes: &[u8], limit: u32) -> Result<Frame, R
             _ => *entry -= 1,
         }
     }
-    Ok(frame)
+    received
 }

@@ -2,7 +2,7 @@ use crate::layout::{
     Broker, CommandVersions, Element, FilteredMessage, Message, Name, Property, PublishingError,
     PublishingId, Replica, Statistic, StreamMetadata,
 };
-use crate::reader::{Reader, Slots};
+use crate::reader::{Reader, Slots, elements};
 use crate::{ElementSlots, Reason, Refusal, part};
 
 /// The element at an index of a list whose encoded elements are `length` bytes of `source` at `place`.
@@ -28,19 +28,19 @@ pub fn element(
         11 => element_of::<Replica>,
         _ => return Err(Reason::NotAdmitted.into()),
     };
-    let Some(elements) = part(source, place, length) else {
+    let Some(part) = part(source, place, length) else {
         return Err(Reason::Outside.into());
     };
     if index >= count {
         return Err(Reason::NotAdmitted.into());
     }
-    asked(elements, (place + length) as usize, index)
+    asked(part, (place + length) as usize, index)
 }
 
 /// Checks the elements up to and including the one asked for, as when read. What lies behind it is not looked at.
-fn element_of<E: Element>(elements: &[u8], end: usize, index: u64) -> Result<ElementSlots, Refusal> {
-    let mut reader = Reader { rest: elements, end, sink: Slots { values: [0; 8], used: 0 } };
-    reader.elements::<E>(index)?;
-    E::fields(&mut reader)?;
-    Ok(reader.sink.values)
+fn element_of<E: Element>(part: &[u8], end: usize, index: u64) -> Result<ElementSlots, Refusal> {
+    let rest = elements::<E>(part, end, index)?;
+    let mut values = [0; 8];
+    E::fields(&mut Reader { rest, end, sink: Slots { values: &mut values, used: 0 } })?;
+    Ok(values)
 }

@@ -23,6 +23,8 @@ const R_OR_NULL: Text = Text { longest: 256, null: Null::Admitted };
 /// One action for each kind of field. The first `Stop` ends a layout.
 pub trait Fields {
     type Stop;
+    /// What stands when every field is done.
+    type Output;
     fn u8(&mut self) -> Result<(), Self::Stop>;
     fn u16(&mut self) -> Result<(), Self::Stop>;
     fn u32(&mut self) -> Result<(), Self::Stop>;
@@ -38,6 +40,8 @@ pub trait Fields {
     fn chunk(&mut self) -> Result<(), Self::Stop>;
     fn unknown_key(&mut self) -> Self::Stop;
     fn unknown_version(&mut self) -> Self::Stop;
+    /// Behind the last field.
+    fn finish(self) -> Result<Self::Output, Self::Stop>;
 }
 
 /// What a list holds.
@@ -91,45 +95,52 @@ elements! {
 
 /// The content of a frame, field by field. An unlisted key is found before an unlisted version.
 #[inline(always)]
-pub fn content<F: Fields>(key: u16, version: u16, f: &mut F) -> Result<(), F::Stop> {
+pub fn content<F: Fields>(key: u16, version: u16, mut f: F) -> Result<F::Output, F::Stop> {
     match (key, version) {
         // DeclarePublisher c u8 R? T
         (0x0001, 1) => {
             f.u32()?;
             f.u8()?;
             f.text(R_OR_NULL)?;
-            f.text(T)
+            f.text(T)?;
+            f.finish()
         }
         // Publish u8 [u64 B]
         (0x0002, 1) => {
             f.u8()?;
-            f.list::<Message>()
+            f.list::<Message>()?;
+            f.finish()
         }
         // Publish u8 [u64 T? B]
         (0x0002, 2) => {
             f.u8()?;
-            f.list::<FilteredMessage>()
+            f.list::<FilteredMessage>()?;
+            f.finish()
         }
         // PublishConfirm u8 [u64]
         (0x0003, 1) => {
             f.u8()?;
-            f.list::<PublishingId>()
+            f.list::<PublishingId>()?;
+            f.finish()
         }
         // PublishError u8 [u64 u16]
         (0x0004, 1) => {
             f.u8()?;
-            f.list::<PublishingError>()
+            f.list::<PublishingError>()?;
+            f.finish()
         }
         // QueryPublisher c R T, QueryOffset c R T
         (0x0005 | 0x000b, 1) => {
             f.u32()?;
             f.text(R)?;
-            f.text(T)
+            f.text(T)?;
+            f.finish()
         }
         // DeletePublisher c u8, Unsubscribe c u8
         (0x0006 | 0x000c, 1) => {
             f.u32()?;
-            f.u8()
+            f.u8()?;
+            f.finish()
         }
         // Subscribe c u8 T spec u16 [T T]
         (0x0007, 1) => {
@@ -138,93 +149,112 @@ pub fn content<F: Fields>(key: u16, version: u16, f: &mut F) -> Result<(), F::St
             f.text(T)?;
             f.offset(false)?;
             f.u16()?;
-            f.list::<Property>()
+            f.list::<Property>()?;
+            f.finish()
         }
         // Deliver u8 chunk
         (0x0008, 1) => {
             f.u8()?;
-            f.chunk()
+            f.chunk()?;
+            f.finish()
         }
         // Deliver u8 u64 chunk
         (0x0008, 2) => {
             f.u8()?;
             f.u64()?;
-            f.chunk()
+            f.chunk()?;
+            f.finish()
         }
         // Credit u8 u16
         (0x0009, 1) => {
             f.u8()?;
-            f.u16()
+            f.u16()?;
+            f.finish()
         }
         // StoreOffset R T u64
         (0x000a, 1) => {
             f.text(R)?;
             f.text(T)?;
-            f.u64()
+            f.u64()?;
+            f.finish()
         }
         // Create c T [T T]
         (0x000d, 1) => {
             f.u32()?;
             f.text(T)?;
-            f.list::<Property>()
+            f.list::<Property>()?;
+            f.finish()
         }
         // Delete, Open, Partitions, StreamStats, DeleteSuperStream: c T
         (0x000e | 0x0015 | 0x0019 | 0x001c | 0x001e, 1) => {
             f.u32()?;
-            f.text(T)
+            f.text(T)?;
+            f.finish()
         }
         // Metadata c [T]
         (0x000f, 1) => {
             f.u32()?;
-            f.list::<Name>()
+            f.list::<Name>()?;
+            f.finish()
         }
         // MetadataUpdate u16 T
         (0x0010, 1) => {
             f.u16()?;
-            f.text(T)
+            f.text(T)?;
+            f.finish()
         }
         // PeerProperties c [T T]
         (0x0011, 1) => {
             f.u32()?;
-            f.list::<Property>()
+            f.list::<Property>()?;
+            f.finish()
         }
         // SaslHandshake c
-        (0x0012, 1) => f.u32(),
+        (0x0012, 1) => {
+            f.u32()?;
+            f.finish()
+        }
         // SaslAuthenticate c T B?
         (0x0013, 1) => {
             f.u32()?;
             f.text(T)?;
-            f.bytes(Null::Admitted)
+            f.bytes(Null::Admitted)?;
+            f.finish()
         }
         // Tune u32 u32, under both keys
         (0x0014 | 0x8014, 1) => {
             f.u32()?;
-            f.u32()
+            f.u32()?;
+            f.finish()
         }
         // Close c u16 T
         (0x0016, 1) => {
             f.u32()?;
             f.u16()?;
-            f.text(T)
+            f.text(T)?;
+            f.finish()
         }
         // Heartbeat
-        (0x0017, 1) => Ok(()),
+        (0x0017, 1) => f.finish(),
         // Route c T T
         (0x0018, 1) => {
             f.u32()?;
             f.text(T)?;
-            f.text(T)
+            f.text(T)?;
+            f.finish()
         }
         // ConsumerUpdate c u8 u8, the last being Active
         (0x001a, 1) => {
             f.u32()?;
             f.u8()?;
-            f.active()
+            f.active()?;
+            f.finish()
         }
         // ExchangeCommandVersions c [u16 u16 u16]
         (0x001b, 1) => {
             f.u32()?;
-            f.list::<CommandVersions>()
+            f.list::<CommandVersions>()?;
+            f.finish()
         }
         // CreateSuperStream c T [T] [T] [T T]
         (0x001d, 1) => {
@@ -232,65 +262,76 @@ pub fn content<F: Fields>(key: u16, version: u16, f: &mut F) -> Result<(), F::St
             f.text(T)?;
             f.list::<Name>()?;
             f.list::<Name>()?;
-            f.list::<Property>()
+            f.list::<Property>()?;
+            f.finish()
         }
         // Responses that are c rc alone
         (0x8001 | 0x8006 | 0x8007 | 0x800c | 0x800d | 0x800e | 0x8016 | 0x801d | 0x801e, 1) => {
             f.u32()?;
-            f.u16()
+            f.u16()?;
+            f.finish()
         }
         // QueryPublisher, QueryOffset: c rc u64
         (0x8005 | 0x800b, 1) => {
             f.u32()?;
             f.u16()?;
-            f.u64()
+            f.u64()?;
+            f.finish()
         }
         // Credit rc u8
         (0x8009, 1) => {
             f.u16()?;
-            f.u8()
+            f.u8()?;
+            f.finish()
         }
         // Metadata c [u16 T u32] [T u16 u16 [u16]]
         (0x800f, 1) => {
             f.u32()?;
             f.list::<Broker>()?;
-            f.list::<StreamMetadata>()
+            f.list::<StreamMetadata>()?;
+            f.finish()
         }
         // PeerProperties, Open: c rc [T T]
         (0x8011 | 0x8015, 1) => {
             f.u32()?;
             f.u16()?;
-            f.list::<Property>()
+            f.list::<Property>()?;
+            f.finish()
         }
         // SaslHandshake, Route, Partitions: c rc [T]
         (0x8012 | 0x8018 | 0x8019, 1) => {
             f.u32()?;
             f.u16()?;
-            f.list::<Name>()
+            f.list::<Name>()?;
+            f.finish()
         }
         // SaslAuthenticate c rc B?
         (0x8013, 1) => {
             f.u32()?;
             f.u16()?;
-            f.bytes(Null::Admitted)
+            f.bytes(Null::Admitted)?;
+            f.finish()
         }
         // ConsumerUpdate c rc spec
         (0x801a, 1) => {
             f.u32()?;
             f.u16()?;
-            f.offset(true)
+            f.offset(true)?;
+            f.finish()
         }
         // ExchangeCommandVersions c rc [u16 u16 u16]
         (0x801b, 1) => {
             f.u32()?;
             f.u16()?;
-            f.list::<CommandVersions>()
+            f.list::<CommandVersions>()?;
+            f.finish()
         }
         // StreamStats c rc [T i64]
         (0x801c, 1) => {
             f.u32()?;
             f.u16()?;
-            f.list::<Statistic>()
+            f.list::<Statistic>()?;
+            f.finish()
         }
         _ if is_listed(key) => Err(f.unknown_version()),
         _ => Err(f.unknown_key()),

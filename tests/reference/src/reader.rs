@@ -6,27 +6,41 @@ use crate::{Frame, NULL, Reason, Refusal};
 
 /// Where a reader puts what it reads.
 pub(crate) trait Sink {
+    type Kept;
     fn put(&mut self, value: u64);
+    fn kept(self) -> Self::Kept;
 }
 
 /// Slots that are filled one after another.
-pub(crate) struct Slots<const N: usize> {
-    pub values: [u64; N],
+pub(crate) struct Slots<'s, const N: usize> {
+    pub values: &'s mut [u64; N],
     pub used: usize,
 }
 
-impl<const N: usize> Sink for Slots<N> {
+impl<const N: usize> Sink for Slots<'_, N> {
+    type Kept = [u64; N];
+
     #[inline(always)]
     fn put(&mut self, value: u64) {
         self.values[self.used] = value;
         self.used += 1;
     }
+
+    #[inline(always)]
+    fn kept(self) -> [u64; N] {
+        *self.values
+    }
 }
 
 /// For fields that are only checked.
 impl Sink for () {
+    type Kept = ();
+
     #[inline(always)]
     fn put(&mut self, _: u64) {}
+
+    #[inline(always)]
+    fn kept(self) {}
 }
 
 /// The bytes not yet read. Places count from the first byte of a slice that ends where these end.
@@ -61,10 +75,30 @@ pub fn read(bytes: &[u8], limit: u32) -> Result<Frame, Refusal> {
     let mut values = [0; 24];
     values[0] = u64::from(key);
     values[1] = u64::from(version);
-    let mut reader = Reader { rest: &frame[8..], end, sink: Slots { values, used: 2 } };
-    content(key, version, &mut reader)?;
-    reader.finish()?;
-    Ok(reader.sink.values)
+    content(key, version, Reader { rest: &frame[8..], end, sink: Slots { values: &mut values, used: 2 } })
+}
+
+/// Text as RFC 3629 has it. Nearly all names are ASCII, which is quicker to see.
+pub(crate) fn is_utf8(text: &[u8]) -> bool {
+    text.is_ascii() || std::str::from_utf8(text).is_ok()
+}
+
+/// Checks the elements of a list at the beginning of `rest`, which ends at place `end`, and gives what lies behind them.
+pub(crate) fn elements<E: Element>(rest: &[u8], end: usize, count: u64) -> Result<&[u8], Refusal> {
+    let mut elements = Reader { rest, end, sink: () };
+    if E::WIDTH > 0 {
+        let whole = count.min((rest.len() / E::WIDTH) as u64);
+        elements.rest = &rest[whole as usize * E::WIDTH..];
+        if whole < count {
+            // This element is cut; its fields say where.
+            E::fields(&mut elements)?;
+        }
+        return Ok(elements.rest);
+    }
+    for _ in 0..count {
+        E::fields(&mut elements)?;
+    }
+    Ok(elements.rest)
 }
 
 impl<'a, S: Sink> Reader<'a, S> {
@@ -72,12 +106,6 @@ impl<'a, S: Sink> Reader<'a, S> {
     #[inline(always)]
     pub fn at(&self) -> usize {
         self.end - self.rest.len()
-    }
-
-    /// Nothing may be left.
-    #[inline(always)]
-    pub fn finish(&self) -> Result<(), Refusal> {
-        if self.rest.is_empty() { Ok(()) } else { Err(self.refuse(Reason::BytesLeft)) }
     }
 
     /// A refusal at the next byte.
@@ -112,30 +140,11 @@ impl<'a, S: Sink> Reader<'a, S> {
         self.sink.put(0);
         self.sink.put(NULL);
     }
-
-    /// The elements of a list, checked and not kept.
-    pub fn elements<E: Element>(&mut self, count: u64) -> Result<(), Refusal> {
-        if E::WIDTH > 0 {
-            let present = self.rest.len() / E::WIDTH;
-            if count <= present as u64 {
-                self.rest = &self.rest[count as usize * E::WIDTH..];
-                return Ok(());
-            }
-            // The element that is cut has fields before the one at fault.
-            self.rest = &self.rest[present * E::WIDTH..];
-            return E::fields(&mut Reader { rest: self.rest, end: self.end, sink: () });
-        }
-        let mut elements = Reader { rest: self.rest, end: self.end, sink: () };
-        for _ in 0..count {
-            E::fields(&mut elements)?;
-        }
-        self.rest = elements.rest;
-        Ok(())
-    }
 }
 
 impl<S: Sink> Fields for Reader<'_, S> {
     type Stop = Refusal;
+    type Output = S::Kept;
 
     #[inline(always)]
     fn u8(&mut self) -> Result<(), Refusal> {
@@ -181,7 +190,7 @@ impl<S: Sink> Fields for Reader<'_, S> {
         Ok(())
     }
 
-    #[inline]
+    #[inline(always)]
     fn text(&mut self, rule: Text) -> Result<(), Refusal> {
         let start = self.at();
         let length = i16::from_be_bytes(self.take()?);
@@ -196,13 +205,13 @@ impl<S: Sink> Fields for Reader<'_, S> {
             return Err(Refusal::at(Reason::LongReference, start));
         }
         let body = self.body(start, length)?;
-        if std::str::from_utf8(body).is_err() {
+        if !is_utf8(body) {
             return Err(Refusal::at(Reason::NotUtf8, start));
         }
         Ok(())
     }
 
-    #[inline]
+    #[inline(always)]
     fn bytes(&mut self, null: Null) -> Result<(), Refusal> {
         let start = self.at();
         let length = i32::from_be_bytes(self.take()?);
@@ -217,7 +226,7 @@ impl<S: Sink> Fields for Reader<'_, S> {
         Ok(())
     }
 
-    #[inline]
+    #[inline(always)]
     fn offset(&mut self, none: bool) -> Result<(), Refusal> {
         let start = self.at();
         let kind = u16::from_be_bytes(self.take()?);
@@ -232,7 +241,7 @@ impl<S: Sink> Fields for Reader<'_, S> {
         Ok(())
     }
 
-    #[inline]
+    #[inline(always)]
     fn list<E: Element>(&mut self) -> Result<(), Refusal> {
         let start = self.at();
         let count = i32::from_be_bytes(self.take()?);
@@ -240,14 +249,14 @@ impl<S: Sink> Fields for Reader<'_, S> {
             return Err(Refusal::at(Reason::BadLength, start));
         };
         let place = self.at();
-        self.elements::<E>(count)?;
+        self.rest = elements::<E>(self.rest, self.end, count)?;
         self.sink.put(count);
         self.sink.put(place as u64);
         self.sink.put((self.at() - place) as u64);
         Ok(())
     }
 
-    #[inline]
+    #[inline(always)]
     fn chunk(&mut self) -> Result<(), Refusal> {
         let start = self.at();
         let header =
@@ -261,13 +270,18 @@ impl<S: Sink> Fields for Reader<'_, S> {
         Ok(())
     }
 
-    #[cold]
+    #[inline(always)]
     fn unknown_key(&mut self) -> Refusal {
         Refusal::at(Reason::UnknownKey, 4)
     }
 
-    #[cold]
+    #[inline(always)]
     fn unknown_version(&mut self) -> Refusal {
         Refusal::at(Reason::UnknownVersion, 6)
+    }
+
+    #[inline(always)]
+    fn finish(self) -> Result<S::Kept, Refusal> {
+        if self.rest.is_empty() { Ok(self.sink.kept()) } else { Err(self.refuse(Reason::BytesLeft)) }
     }
 }

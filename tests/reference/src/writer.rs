@@ -4,7 +4,7 @@ use std::convert::Infallible;
 
 use crate::chunk::Header;
 use crate::layout::{Element, Fields, Null, Text, content};
-use crate::reader::Reader;
+use crate::reader::{elements, is_utf8};
 use crate::{Frame, NULL, Reason, Refusal, part};
 
 /// Writes a flat frame whose places lie in `source` to the beginning of `out` and gives its length. A refused write
@@ -17,9 +17,7 @@ pub fn write(frame: &Frame, source: &[u8], limit: u32, out: &mut [u8]) -> Result
     // A version too wide for its field is none of those listed, and 0 is not listed either.
     let version = u16::try_from(frame[1]).unwrap_or(0);
 
-    let mut checker = Checker { frame, next: 2, source, size: 4 };
-    content(key, version, &mut checker)?;
-    let size = checker.size;
+    let size = content(key, version, Checker { frame, next: 2, source, size: 4 })?;
     if size > u64::from(u32::MAX) || (limit != 0 && size > u64::from(limit)) {
         return Err(Reason::OverLimit.into());
     }
@@ -33,7 +31,7 @@ pub fn write(frame: &Frame, source: &[u8], limit: u32, out: &mut [u8]) -> Result
     emitter.put((size as u32).to_be_bytes());
     emitter.put(key.to_be_bytes());
     emitter.put(version.to_be_bytes());
-    let Ok(()) = content(key, version, &mut emitter);
+    let Ok(()) = content(key, version, emitter);
     Ok(length)
 }
 
@@ -73,6 +71,7 @@ impl<'a> Checker<'a> {
 
 impl Fields for Checker<'_> {
     type Stop = Refusal;
+    type Output = u64;
 
     #[inline(always)]
     fn u8(&mut self) -> Result<(), Refusal> {
@@ -104,7 +103,7 @@ impl Fields for Checker<'_> {
         self.number(1, 1)
     }
 
-    #[inline]
+    #[inline(always)]
     fn text(&mut self, rule: Text) -> Result<(), Refusal> {
         let [place, length] = *self.slots();
         if length == NULL && rule.null == Null::Admitted {
@@ -118,14 +117,14 @@ impl Fields for Checker<'_> {
             return Err(Reason::LongReference.into());
         }
         let body = self.part(place, length)?;
-        if std::str::from_utf8(body).is_err() {
+        if !is_utf8(body) {
             return Err(Reason::NotUtf8.into());
         }
         self.size += 2 + length;
         Ok(())
     }
 
-    #[inline]
+    #[inline(always)]
     fn bytes(&mut self, null: Null) -> Result<(), Refusal> {
         let [place, length] = *self.slots();
         if length == NULL && null == Null::Admitted {
@@ -140,7 +139,7 @@ impl Fields for Checker<'_> {
         Ok(())
     }
 
-    #[inline]
+    #[inline(always)]
     fn offset(&mut self, none: bool) -> Result<(), Refusal> {
         let [kind, _] = *self.slots();
         self.size += match kind {
@@ -152,21 +151,21 @@ impl Fields for Checker<'_> {
         Ok(())
     }
 
-    #[inline]
+    #[inline(always)]
     fn list<E: Element>(&mut self) -> Result<(), Refusal> {
         let [count, place, length] = *self.slots();
         if count > i32::MAX as u64 {
             return Err(Reason::BadLength.into());
         }
-        let elements = self.part(place, length)?;
-        let mut reader = Reader { rest: elements, end: elements.len(), sink: () };
-        reader.elements::<E>(count)?;
-        reader.finish()?;
+        let part = self.part(place, length)?;
+        if !elements::<E>(part, part.len(), count)?.is_empty() {
+            return Err(Reason::BytesLeft.into());
+        }
         self.size += 4 + length;
         Ok(())
     }
 
-    #[inline]
+    #[inline(always)]
     fn chunk(&mut self) -> Result<(), Refusal> {
         let header = match Header::from_numbers(self.slots()) {
             Some(header) if header.has_known_type() => header,
@@ -179,14 +178,19 @@ impl Fields for Checker<'_> {
         Ok(())
     }
 
-    #[cold]
+    #[inline(always)]
     fn unknown_key(&mut self) -> Refusal {
         Reason::UnknownKey.into()
     }
 
-    #[cold]
+    #[inline(always)]
     fn unknown_version(&mut self) -> Refusal {
         Reason::UnknownVersion.into()
+    }
+
+    #[inline(always)]
+    fn finish(self) -> Result<u64, Refusal> {
+        Ok(self.size)
     }
 }
 
@@ -224,6 +228,7 @@ impl<'a> Emitter<'a> {
 
 impl Fields for Emitter<'_> {
     type Stop = Infallible;
+    type Output = ();
 
     #[inline(always)]
     fn u8(&mut self) -> Result<(), Infallible> {
@@ -263,7 +268,7 @@ impl Fields for Emitter<'_> {
         self.u8()
     }
 
-    #[inline]
+    #[inline(always)]
     fn text(&mut self, _: Text) -> Result<(), Infallible> {
         let [place, length] = *self.slots();
         // The length of a null, all ones, is -1 in two bytes as well.
@@ -274,7 +279,7 @@ impl Fields for Emitter<'_> {
         Ok(())
     }
 
-    #[inline]
+    #[inline(always)]
     fn bytes(&mut self, _: Null) -> Result<(), Infallible> {
         let [place, length] = *self.slots();
         self.put((length as u32).to_be_bytes());
@@ -284,7 +289,7 @@ impl Fields for Emitter<'_> {
         Ok(())
     }
 
-    #[inline]
+    #[inline(always)]
     fn offset(&mut self, _: bool) -> Result<(), Infallible> {
         let [kind, value] = *self.slots();
         self.put((kind as u16).to_be_bytes());
@@ -294,7 +299,7 @@ impl Fields for Emitter<'_> {
         Ok(())
     }
 
-    #[inline]
+    #[inline(always)]
     fn list<E: Element>(&mut self) -> Result<(), Infallible> {
         let [count, place, length] = *self.slots();
         self.put((count as u32).to_be_bytes());
@@ -302,7 +307,7 @@ impl Fields for Emitter<'_> {
         Ok(())
     }
 
-    #[inline]
+    #[inline(always)]
     fn chunk(&mut self) -> Result<(), Infallible> {
         let header = Header::from_numbers(self.slots()).expect("the header has been checked");
         self.put(header.encode());
@@ -317,5 +322,10 @@ impl Fields for Emitter<'_> {
 
     fn unknown_version(&mut self) -> Infallible {
         unreachable!("the version has been checked")
+    }
+
+    #[inline(always)]
+    fn finish(self) -> Result<(), Infallible> {
+        Ok(())
     }
 }
