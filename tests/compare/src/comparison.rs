@@ -21,7 +21,10 @@ pub struct Comparison<'a> {
 /// A call that the two answered differently, told with its input.
 pub struct Difference(pub String);
 
-type Compared<T> = Result<T, Difference>;
+/// What both gave, or how they differed.
+pub type Compared<T> = Result<T, Difference>;
+
+pub type Done = Compared<()>;
 
 fn hex(bytes: &[u8]) -> String {
     bytes.iter().fold(String::new(), |mut text, byte| {
@@ -111,7 +114,7 @@ impl<'a> Comparison<'a> {
         Ok((refusal(reference) == 0).then_some(b))
     }
 
-    pub fn message(&mut self, frame: &Frame, source: &[u8], index: u64) -> Compared<()> {
+    pub fn message(&mut self, frame: &Frame, source: &[u8], index: u64) -> Done {
         let (mut a, mut b) = ([UNTOUCHED_SLOT; 8], [UNTOUCHED_SLOT; 8]);
         let library = self.library.message(frame, source, index, &mut a);
         let reference = self.reference.message(frame, source, index, &mut b);
@@ -131,7 +134,7 @@ impl<'a> Comparison<'a> {
         arguments: &dyn Fn() -> String,
         ledger: &mut Ledger,
         make: &dyn Fn(&dyn Boundary, &mut Ledger) -> u64,
-    ) -> Compared<()> {
+    ) -> Done {
         let before = *ledger;
         let mut other = before;
         let library = make(self.library, &mut other);
@@ -144,7 +147,7 @@ impl<'a> Comparison<'a> {
         Ok(())
     }
 
-    pub fn receive(&mut self, ledger: &mut Ledger, bytes: &[u8], limit: u32) -> Compared<()> {
+    pub fn receive(&mut self, ledger: &mut Ledger, bytes: &[u8], limit: u32) -> Done {
         let before = *ledger;
         let mut other = before;
         let (mut a, mut b) = ([UNTOUCHED_SLOT; 24], [UNTOUCHED_SLOT; 24]);

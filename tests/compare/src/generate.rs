@@ -49,7 +49,7 @@ impl Generator<'_> {
     }
 
     fn any(&mut self, width: usize) -> Result<(), Infallible> {
-        let random = self.random.next();
+        let random = self.random.number();
         let value = self.random.pick(&[random, random, random, 0, 1, u64::MAX, 1 << 63, i64::MAX as u64]);
         self.number(width, value);
         Ok(())
@@ -85,7 +85,7 @@ impl Generator<'_> {
     }
 
     fn octets(&mut self, length: usize) {
-        let fill = self.random.next();
+        let fill = self.random.number();
         self.bytes.extend((0..length as u64).map(|i| fill.wrapping_mul(2 * i + 1).to_le_bytes()[7]));
     }
 }
@@ -181,7 +181,7 @@ impl Fields for Generator<'_> {
         self.any(1)?;
         self.marked(1, kind);
         self.marked(2, entries as u64);
-        let records = if kind == 0 { entries as u64 } else { self.random.next() };
+        let records = if kind == 0 { entries as u64 } else { self.random.number() };
         self.marked(4, records);
         for width in [8, 8, 8, 4] {
             self.any(width)?;

@@ -7,7 +7,11 @@ mod comparison;
 mod faulty;
 mod generate;
 mod inputs;
+mod ledgers;
 mod outline;
+mod parts;
+mod reading;
+mod writing;
 
 use std::process::ExitCode;
 

@@ -86,8 +86,8 @@ pub(crate) fn is_utf8(text: &[u8]) -> bool {
 /// Checks the elements of a list at the beginning of `rest`, which ends at place `end`, and gives what lies behind them.
 pub(crate) fn elements<E: Element>(rest: &[u8], end: usize, count: u64) -> Result<&[u8], Refusal> {
     let mut elements = Reader { rest, end, sink: () };
-    if E::WIDTH > 0 {
-        let whole = count.min((rest.len() / E::WIDTH) as u64);
+    if let Some(present) = rest.len().checked_div(E::WIDTH) {
+        let whole = count.min(present as u64);
         elements.rest = &rest[whole as usize * E::WIDTH..];
         if whole < count {
             // This element is cut; its fields say where.
