@@ -10,20 +10,16 @@ use crate::parts::{elements, messages};
 use crate::reading::{damaged, random_frame, random_text, whole_and_cut};
 use crate::writing::{random_flat_frame, writing};
 
+/// A chunk has more rules than any other field, so Delivers come more often.
+const DELIVERS: usize = 5;
+
 /// Compares until so many calls were made.
 pub fn compare(comparison: &mut Comparison, random: &mut Random, inputs: u64) -> Done {
     while comparison.compared < inputs {
         for key in keys() {
             for version in versions(key) {
-                let generated = generate::frame(random, key, version);
-                whole_and_cut(comparison, random, &generated)?;
-                damaged(comparison, random, &generated)?;
-                if let Some(frame) = comparison.read(&generated.bytes, 0)? {
-                    writing(comparison, random, &generated, &frame)?;
-                    elements(comparison, random, &generated, &frame)?;
-                    if key == 0x0008 {
-                        messages(comparison, random, &generated, &frame)?;
-                    }
+                for _ in 0..if key == 0x0008 { DELIVERS } else { 1 } {
+                    layout(comparison, random, key, version)?;
                 }
                 if comparison.compared >= inputs {
                     return Ok(());
@@ -40,6 +36,21 @@ pub fn compare(comparison: &mut Comparison, random: &mut Random, inputs: u64) ->
         for _ in 0..20 {
             credit_calls(comparison, random)?;
             publisher_calls(comparison, random)?;
+        }
+    }
+    Ok(())
+}
+
+/// One frame of a layout, and everything that is asked about it.
+fn layout(comparison: &mut Comparison, random: &mut Random, key: u16, version: u16) -> Done {
+    let generated = generate::frame(random, key, version);
+    whole_and_cut(comparison, random, &generated)?;
+    damaged(comparison, random, &generated)?;
+    if let Some(frame) = comparison.read(&generated.bytes, 0)? {
+        writing(comparison, random, &generated, &frame)?;
+        elements(comparison, random, &generated, &frame)?;
+        if key == 0x0008 {
+            messages(comparison, random, &generated, &frame)?;
         }
     }
     Ok(())
