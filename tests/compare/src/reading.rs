@@ -53,59 +53,74 @@ fn cuts(random: &mut Random, generated: &Generated, most: usize) -> Vec<usize> {
 
 pub fn damaged(comparison: &mut Comparison, random: &mut Random, generated: &Generated) -> Done {
     let mut bytes = generated.bytes.clone();
-    let size = bytes.len() as u64 - 4;
-    for altered in [0, 1, 2, 3, 4, 5, size - 1, size + 1, size / 2, size * 2, 65_533, u64::MAX, 1 << 31] {
-        with_number(&mut bytes, Mark { at: 0, width: 4 }, altered, |bytes| {
+    head_altered(comparison, random, &mut bytes)?;
+    if generated.marks.len() <= 12 {
+        for mark in &generated.marks {
+            number_altered(comparison, random, &mut bytes, *mark)?;
+        }
+    } else {
+        for _ in 0..12 {
+            let mark = random.pick(&generated.marks);
+            number_altered(comparison, random, &mut bytes, mark)?;
+        }
+    }
+    for _ in 0..24 {
+        bytes_altered(comparison, random, &mut bytes)?;
+    }
+    Ok(())
+}
+
+/// Size, key and version.
+fn head_altered(comparison: &mut Comparison, random: &mut Random, bytes: &mut [u8]) -> Done {
+    let length = bytes.len() as u64 - 4;
+    let size = Mark { at: 0, width: 4 };
+    for altered in
+        [0, 1, 2, 3, 4, 5, length - 1, length + 1, length / 2, length * 2, 65_533, u64::MAX, 1 << 31]
+    {
+        with_number(bytes, size, altered, |bytes| {
             comparison.read(bytes, random.pick(&[1, 2, 3]))?;
             comparison.read(bytes, 65_532)?;
             comparison.read(bytes, 0)
         })?;
     }
-    let mark = Mark { at: 4, width: 2 };
-    let key = number_at(&bytes, mark);
-    for altered in [0, key ^ 0x8000, key + 1, key - 1, key ^ 0x0100, 0x001f, 0x8002, 0x8008, random.number()]
-    {
-        with_number(&mut bytes, mark, altered, |bytes| comparison.read(bytes, 0))?;
+    let key = Mark { at: 4, width: 2 };
+    let listed = number_at(bytes, key);
+    let (response, next, last, far) = (listed ^ 0x8000, listed + 1, listed - 1, listed ^ 0x0100);
+    for altered in [0, response, next, last, far, 0x001f, 0x8002, 0x8008, random.number()] {
+        with_number(bytes, key, altered, |bytes| comparison.read(bytes, 0))?;
     }
+    let version = Mark { at: 6, width: 2 };
     for altered in [0, 2, 3, 0x0100, 0x0101, 0x0102, random.number()] {
-        with_number(&mut bytes, Mark { at: 6, width: 2 }, altered, |bytes| comparison.read(bytes, 0))?;
+        with_number(bytes, version, altered, |bytes| comparison.read(bytes, 0))?;
     }
-    for _ in 0..generated.marks.len().min(12) {
-        let mark = random.pick(&generated.marks);
-        let value = number_at(&bytes, mark);
-        let top = 1 << (8 * mark.width - 1);
-        for altered in [
-            value.wrapping_sub(2),
-            value.wrapping_sub(1),
-            value + 1,
-            value + 2,
-            value ^ top,
-            0,
-            u64::MAX,
-            u64::MAX - 1,
-            top - 1,
-            top,
-            random.number(),
-            random.below(8) as u64,
-        ] {
-            with_number(&mut bytes, mark, altered, |bytes| comparison.read(bytes, 0))?;
-        }
+    Ok(())
+}
+
+/// A length, count, type or size: a little less, a little more, negative, huge.
+fn number_altered(comparison: &mut Comparison, random: &mut Random, bytes: &mut [u8], mark: Mark) -> Done {
+    let value = number_at(bytes, mark);
+    let top = 1 << (8 * mark.width - 1);
+    let near = [value.wrapping_sub(2), value.wrapping_sub(1), value + 1, value + 2, value ^ top];
+    let far = [0, u64::MAX, u64::MAX - 1, top - 1, top, random.number(), random.below(8) as u64];
+    for altered in near.into_iter().chain(far) {
+        with_number(bytes, mark, altered, |bytes| comparison.read(bytes, 0))?;
     }
-    for _ in 0..24 {
-        let flips = 1 + random.below(3);
-        let mut flipped = Vec::new();
-        for _ in 0..flips {
-            let at =
-                if random.once_in(4) { random.below(bytes.len()) } else { 4 + random.below(bytes.len() - 4) };
-            flipped.push((at, bytes[at]));
-            let any = random.byte();
-            bytes[at] =
-                random.pick(&[any, any, 0, 1, 0x7f, 0x80, 0xc0, 0xff, bytes[at] ^ 1, bytes[at] ^ 0x80]);
-        }
-        comparison.read(&bytes, 0)?;
-        for (at, byte) in flipped.into_iter().rev() {
-            bytes[at] = byte;
-        }
+    Ok(())
+}
+
+/// One to three bytes anywhere.
+fn bytes_altered(comparison: &mut Comparison, random: &mut Random, bytes: &mut [u8]) -> Done {
+    let mut kept = Vec::new();
+    for _ in 0..1 + random.below(3) {
+        let first = random.pick(&[0, 4, 4, 4]);
+        let at = first + random.below(bytes.len() - first);
+        let (byte, any) = (bytes[at], random.byte());
+        kept.push((at, byte));
+        bytes[at] = random.pick(&[any, any, 0, 1, 0x7f, 0x80, 0xc0, 0xff, byte ^ 1, byte ^ 0x80]);
+    }
+    comparison.read(bytes, 0)?;
+    for (at, byte) in kept.into_iter().rev() {
+        bytes[at] = byte;
     }
     Ok(())
 }
