@@ -7,14 +7,15 @@ use crate::comparison::{Comparison, Done};
 use crate::generate;
 use crate::ledgers::{credit_calls, publisher_calls};
 use crate::parts::{elements, messages};
-use crate::reading::{damaged, random_frame, random_text, whole_and_cut};
+use crate::reading::{damaged, random_frame, random_text, texts, whole_and_cut};
 use crate::writing::{random_flat_frame, writing};
 
 /// A chunk has more rules than any other field, so Delivers come more often.
 const DELIVERS: usize = 5;
 
-/// Compares until so many calls were made.
+/// Compares all short texts, then other inputs until so many calls were made.
 pub fn compare(comparison: &mut Comparison, random: &mut Random, inputs: u64) -> Done {
+    texts(comparison, random)?;
     while comparison.compared < inputs {
         for key in keys() {
             for version in versions(key) {
@@ -26,7 +27,7 @@ pub fn compare(comparison: &mut Comparison, random: &mut Random, inputs: u64) ->
                 }
             }
         }
-        for _ in 0..1500 {
+        for _ in 0..1000 {
             random_text(comparison, random)?;
         }
         for _ in 0..200 {

@@ -22,7 +22,7 @@ use random::Random;
 
 const SEED: u64 = 1;
 const INPUTS: u64 = 1_000_000;
-const SELF_TEST_INPUTS: u64 = 100_000;
+const SELF_TEST_INPUTS: u64 = 400_000;
 
 struct Options {
     inputs: u64,

@@ -62,6 +62,7 @@ fn questions(comparison: &mut Comparison, random: &mut Random, shape: u8, source
     Ok(())
 }
 
+/// The header's numbers stay within their widths: what a wider one gets here is laid down for writing only.
 pub fn messages(
     comparison: &mut Comparison,
     random: &mut Random,

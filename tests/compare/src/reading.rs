@@ -162,19 +162,41 @@ pub fn random_frame(comparison: &mut Comparison, random: &mut Random) -> Done {
     Ok(())
 }
 
-/// Text at the edges of RFC 3629, behind runs of ASCII of every length up to two words.
-pub fn random_text(comparison: &mut Comparison, random: &mut Random) -> Done {
-    const EDGES: [u8; 26] = [
-        0x00, 0x41, 0x7f, 0x80, 0x8f, 0x90, 0x9f, 0xa0, 0xbf, 0xc0, 0xc1, 0xc2, 0xdf, 0xe0, 0xe1, 0xec, 0xed,
-        0xee, 0xef, 0xf0, 0xf1, 0xf3, 0xf4, 0xf5, 0xf7, 0xff,
-    ];
-    const FOLLOWING: [u8; 8] = [0x80, 0x8f, 0x90, 0x9f, 0xa0, 0xbf, 0x7f, 0xc0];
-    let mut text = vec![b'a'; random.below(18)];
-    text.push(random.pick(&EDGES));
-    for _ in 0..random.below(4) {
-        text.push(if random.once_in(8) { random.byte() } else { random.pick(&FOLLOWING) });
+/// Bytes on either side of every border that RFC 3629 draws: between leading bytes, and between those that follow.
+const LEADING: [u8; 26] = [
+    0x00, 0x41, 0x7f, 0x80, 0x8f, 0x90, 0x9f, 0xa0, 0xbf, 0xc0, 0xc1, 0xc2, 0xdf, 0xe0, 0xe1, 0xec, 0xed,
+    0xee, 0xef, 0xf0, 0xf1, 0xf3, 0xf4, 0xf5, 0xf7, 0xff,
+];
+const FOLLOWING: [u8; 8] = [0x7f, 0x80, 0x8f, 0x90, 0x9f, 0xa0, 0xbf, 0xc0];
+
+/// Every sequence of one to four such bytes.
+pub fn texts(comparison: &mut Comparison, random: &mut Random) -> Done {
+    let mut sequences: Vec<Vec<u8>> = LEADING.iter().map(|byte| vec![*byte]).collect();
+    for _ in 0..4 {
+        for sequence in &sequences {
+            text(comparison, random, sequence, 0)?;
+            text(comparison, random, sequence, 1)?;
+        }
+        let longer = |sequence: &Vec<u8>| FOLLOWING.map(|byte| [&sequence[..], &[byte]].concat());
+        sequences = sequences.iter().flat_map(longer).collect();
     }
-    text.extend(vec![b'z'; random.pick(&[0, 0, 1, 7, 8, 9])]);
+    Ok(())
+}
+
+/// Such bytes in any order and number.
+pub fn random_text(comparison: &mut Comparison, random: &mut Random) -> Done {
+    let mut sequence = Vec::new();
+    for _ in 0..1 + random.below(8) {
+        let (leading, following, any) = (random.pick(&LEADING), random.pick(&FOLLOWING), random.byte());
+        sequence.push(random.pick(&[leading, leading, following, following, following, any]));
+    }
+    let behind = random.pick(&[0, 1, 7, 8, 9]);
+    text(comparison, random, &sequence, behind)
+}
+
+/// An Open whose text is ASCII of any length up to two words, then this sequence, then so many bytes of ASCII.
+fn text(comparison: &mut Comparison, random: &mut Random, sequence: &[u8], behind: usize) -> Done {
+    let text = [&vec![b'a'; random.below(18)], sequence, &vec![b'z'; behind]].concat();
     let mut bytes = vec![0, 0, 0, 0, 0, 0x15, 0, 1, 0, 0, 0, 1];
     bytes.extend((text.len() as u16).to_be_bytes());
     bytes.extend(text);
