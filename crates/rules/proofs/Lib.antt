@@ -5,3 +5,4 @@ pub mod Bounds
 pub mod Parts
 pub mod Gives
 pub mod Inside
+pub mod Elements
