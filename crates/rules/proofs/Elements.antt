@@ -78,7 +78,7 @@ parts-of-a-frame s limit f e =
 
 module _ {A : Type 0} (read : List ℕ → ℕ → Outcome A) (part : List ℕ) (index : ℕ) where
   -- What holds of each that is read holds of the one at an index.
-  nth-gives : (P : A → ℕ → Type 0) → ((at : ℕ) → Gives P (read part at)) → Gives P (readNth read index part)
+  pub nth-gives : (P : A → ℕ → Type 0) → ((at : ℕ) → Gives P (read part at)) → Gives P (readNth read index part)
   unfolding readNth
   nth-gives P h = by (repeated read index part 0)
     where
@@ -86,7 +86,7 @@ module _ {A : Type 0} (read : List ℕ → ℕ → Outcome A) (part : List ℕ) 
       by (got _ at) = h at
       by (refused n at) = tt
 
-  nth-numbered : ((t : List ℕ) (at : ℕ) → Numbered (read t at)) → Numbered (readNth read index part)
+  pub nth-numbered : ((t : List ℕ) (at : ℕ) → Numbered (read t at)) → Numbered (readNth read index part)
   unfolding readNth
   nth-numbered h = by (repeated read index part 0) (numbered-repeated read h index part 0)
     where
@@ -108,6 +108,14 @@ not-6 e = omega arith
 
 not-10 : valueNotAdmitted ≡ 0 → ⊥
 not-10 e = omega arith
+
+-- A message lies within its part.
+pub entry-inside : (part : List ℕ) (at : ℕ) → Gives (λ q _. EndsBy (length part) (some q)) (readEntry part at)
+unfolding readEntry
+entry-inside part at =
+    after-number (λ q _. EndsBy (length part) (some q)) 4 part at _ (λ _.
+    check (λ q _. EndsBy (length part) (some q)) (leb 0x8000_0000 (bigEndian 4 part at)) 10 at _ (λ _.
+    check (λ q _. EndsBy (length part) (some q)) (ltb (length part) (at + 4 + bigEndian 4 part at)) 6 at _ (λ e. ltb-false _ _ e)))
 
 module _ (s : List ℕ) (p : Place) (index : ℕ) where
   room : outside p s ≡ false → p .at + length (bytesAt s p) ≤ length s
@@ -137,13 +145,6 @@ module _ (s : List ℕ) (p : Place) (index : ℕ) where
 
   abbrev Within : Place → Type 0
   Within q = EndsBy (length s) (some q)
-
-  entry-inside : (part : List ℕ) (at : ℕ) → Gives (λ q _. EndsBy (length part) (some q)) (readEntry part at)
-  unfolding readEntry
-  entry-inside part at =
-      after-number (λ q _. EndsBy (length part) (some q)) 4 part at _ (λ _.
-      check (λ q _. EndsBy (length part) (some q)) (leb 0x8000_0000 (bigEndian 4 part at)) 10 at _ (λ _.
-      check (λ q _. EndsBy (length part) (some q)) (ltb (length part) (at + 4 + bigEndian 4 part at)) 6 at _ (λ e. ltb-false _ _ e)))
 
   further-inside : (part : List ℕ) (q : Place) → p .at + length part ≤ length s → EndsBy (length part) (some q) → Within (further (p .at) q)
   further-inside part q h k = sum (p .at) (q .at) (q .len) (length part) h k
