@@ -1,7 +1,7 @@
 -- What a question finds lies within the source: the elements and entries lie within their place, and that place within
 -- the source. So the part of the source at such a place is exactly the field's bytes. Assumes nothing.
-use mathlib.Core.Path.{_≡_, refl, _∙_, sym, ap, ap₂, subst}
-use mathlib.Core.Bool.{Bool, true, false, not, cond}
+use mathlib.Core.Path.{_≡_, refl, ap, ap₂, subst}
+use mathlib.Core.Bool.{false, not}
 use mathlib.Core.List.{List, [], _∷_, map}
 use mathlib.Core.Option.{Option, none, some, Option·map}
 use Prim.Native.Nat.{ℕ, zero, suc, _+_, _-_, _≤_}
@@ -19,10 +19,10 @@ use Rattle.protocol.specs.declared.place.Place.{Place}
 use Rattle.rules.specs.Outcome.{Outcome, got, refused, then, repeated, mapped}
 use Rattle.rules.specs.Reading.{hasEntries, readEntry, readRow, Reading, frame, short, refusal, readFrame, readLayout, readingOf, readContent}
 use Rattle.rules.specs.Exactness.{frameLength}
-use Rattle.rules.specs.Elements.{Asked, found, asked, readNth, elementAt, messageAt, partAt, octetsIn, placeIn}
+use Rattle.rules.specs.Elements.{Asked, found, asked, readNth, elementAt, messageAt, partAt, placeIn}
 use Rattle.rules.specs.Elements as E
 use Rattle.rules.proofs.Bounds.{Numbered, numbered-repeated, numbered-row, numbered-entry}
-use Rattle.rules.proofs.Gives.{Gives, choice, check, after, after-number, frame-cases}
+use Rattle.rules.proofs.Gives.{Gives, choice, check, after-number, frame-cases}
 use Rattle.rules.proofs.Inside.{inside-row, moved, inside}
 use Rattle.rules.proofs.Parts.{length-part}
 

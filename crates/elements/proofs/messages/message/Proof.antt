@@ -18,5 +18,5 @@ message-spec =
     (λ c. search needs)
     (λ c.
     let found = c .before .before in
-    c .part .ensures ∙ message-part _ 0 _ _ _ _ (ap placeAnswer (sym (found .place .given .1)) ∙ found .before .before .message-place .ensures))
+    message-part _ _ _ _ _ _ (c .part .ensures) (ap placeAnswer (sym (found .place .given .1)) ∙ found .before .before .message-place .ensures))
     (λ c. ap (messagePart _) (ap placeAnswer (sym (c .before .enum-told .given .1)) ∙ c .before .before .before .message-place .ensures)))
