@@ -3,7 +3,7 @@
 -- its number and its place, and what is read one behind another has the first refusal. Assumes nothing.
 use mathlib.Core.Path.{_≡_, refl}
 use mathlib.Core.Bool.{Bool, true, false, not, cond}
-use mathlib.Core.List.{List, [], _∷_}
+use mathlib.Core.List.{List}
 use Prim.Native.Nat.{ℕ, zero, suc, _+_, _≤_, _<_}
 use native.Mathlib.Omega.{arith}
 use lib.Dec.{eqb, ltb, leb}
@@ -12,11 +12,11 @@ use lib.ListN.{length, take, drop}
 use borrow.Author.Tests.{ltb-false, ltb-true}
 use Rattle.wire.specs.Integers.{bigEndian}
 use Rattle.wire.specs.Signed as two's
-use Rattle.protocol.specs.Fields.{Field, place}
+use Rattle.protocol.specs.Fields.{Field}
 use Rattle.protocol.specs.Kinds.{lengthWidth, Kind, unsigned, signed, string, specification, list, chunk, Row, end, _·_}
 use Rattle.protocol.specs.declared.kind.Form.{Form}
 use Rattle.protocol.specs.declared.place.Place.{Place}
-use Rattle.rules.proofs.Numbers.{number-cases}
+use Rattle.rules.proofs.Gives.{Gives, after-number}
 use Rattle.rules.specs.Outcome.{Outcome, got, refused, then, refuseIf, repeated}
 use Rattle.rules.specs.Reading.{readNumber, readUnsigned, readSigned, readBody, readString, readOffset, readTimestamp, readTyped, readSpecification, countOf, readCount, readList, headerAt, hasEntries, isChunkType, tooLong, isText, readEntry, readEntries, readData, readChunk, readField, readRow, readContent}
 
@@ -204,17 +204,10 @@ pub numbered-entry : (s : List ℕ) (at : ℕ) → Numbered (readEntry s at)
 numbered-entry s at = numbered s at (readEntry s at) (bounded-entry s at)
 
 -- A count that is read lies within the part, wherever its reading began.
-abbrev Inside : List ℕ → Outcome ℕ → Type 0
-Inside s (got n next) = next ≤ length s
-Inside s (refused n p) = Unit
-
-inside-sign : (s : List ℕ) (at : ℕ) (z : ℤ) (next : ℕ) → next ≤ length s → Inside s (countOf at z next)
-inside-sign s at (pos n) next h = h
-inside-sign s at (negsuc k) next h = tt
-
-pub inside-count : (s : List ℕ) (at : ℕ) → Inside s (readCount s at)
+pub inside-count : (s : List ℕ) (at : ℕ) → Gives (λ _ next. next ≤ length s) (readCount s at)
 unfolding readCount
-inside-count s at =
-    number-cases 4 s at (λ o. Inside s (then o (λ x next. countOf at (two's.signed 4 x) next)))
-    (λ h. inside-sign s at (two's.signed 4 (bigEndian 4 s at)) (at + 4) h)
-    (λ h. tt)
+inside-count s at = after-number (λ _ next. next ≤ length s) 4 s at _ (λ h. by (two's.signed 4 (bigEndian 4 s at)) h)
+  where
+    by : (z : ℤ) → at + 4 ≤ length s → Gives (λ _ next. next ≤ length s) (countOf at z (at + 4))
+    by (pos n) h = h
+    by (negsuc k) h = tt

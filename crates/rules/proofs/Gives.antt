@@ -11,7 +11,7 @@ use Rattle.wire.specs.Integers.{bigEndian}
 use Rattle.protocol.specs.Decision.{Decision, layout, unlistedKey, unlistedVersion, decide}
 use Rattle.rules.proofs.Numbers.{number-cases}
 use Rattle.rules.specs.Outcome.{Outcome, got, refused, then, refuseIf}
-use Rattle.rules.specs.Reading.{readNumber, Reading, frame, short, refusal, readLayout, readDecided, overLimit, readSized, readFrame}
+use Rattle.rules.specs.Reading.{readNumber, Reading, short, refusal, readLayout, readDecided, overLimit, readSized, readFrame}
 
 abbrev pub Gives : {A : Type 0} → (A → ℕ → Type 0) → Outcome A → Type 0
 Gives P (got a next) = P a next
@@ -34,6 +34,14 @@ module _ {A : Type 0} (P : A → ℕ → Type 0) where
   -- A number, and then more.
   pub after-number : (n : ℕ) (s : List ℕ) (at : ℕ) (f : ℕ → ℕ → Outcome A) → (at + n ≤ length s → Gives P (f (bigEndian n s at) (at + n))) → Gives P (then (readNumber n s at) f)
   after-number n s at f h = number-cases n s at (λ o. Gives P (then o f)) h (λ _. tt)
+
+pub weaker : {A : Type 0} (P Q : A → ℕ → Type 0) (o : Outcome A) → ((a : A) (next : ℕ) → P a next → Q a next) → Gives P o → Gives Q o
+weaker P Q (got a next) f h = f a next h
+weaker P Q (refused n p) f h = tt
+
+pub also : {A : Type 0} (P Q : A → ℕ → Type 0) (o : Outcome A) → Gives P o → Gives Q o → Gives (λ a next. P a next × Q a next) o
+also P Q (got a next) h g = (h, g)
+also P Q (refused n p) h g = tt
 
 -- What holds of every refusal holds of reading a frame, if it holds of reading a layout behind all the checks of the
 -- frame's first eight bytes.

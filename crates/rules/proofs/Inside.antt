@@ -12,17 +12,16 @@ use lib.ListN.{length, take, drop}
 use borrow.Author.Tests.{ltb-false}
 use Rattle.wire.specs.Integers.{bigEndian}
 use Rattle.wire.specs.Signed as two's
-use Rattle.protocol.specs.Decision.{Decision, layout, unlistedKey, unlistedVersion, decide}
-use Rattle.protocol.specs.Fields.{Field, Fields, place, overPlaces, further, EndsBy, PlacesEndBy}
+use Rattle.protocol.specs.Fields.{Field, Fields, overPlaces, further, EndsBy, PlacesEndBy}
 use Rattle.protocol.specs.Kinds.{lengthWidth, Kind, unsigned, signed, string, specification, list, chunk, Row, end, _·_}
 use Rattle.protocol.specs.Table.{rowOf}
 use Rattle.protocol.specs.declared.chunk.ChunkHeader.{ChunkHeader}
 use Rattle.protocol.specs.declared.kind.Form.{Form}
 use Rattle.protocol.specs.declared.place.Place.{Place}
 use Rattle.rules.specs.Outcome.{Outcome, got, refused, refuseIf, repeated}
-use Rattle.rules.specs.Reading.{readUnsigned, readSigned, readBody, readString, readOffset, readTimestamp, readTyped, readSpecification, countOf, readCount, readList, headerAt, hasEntries, isChunkType, tooLong, isText, readEntries, readData, readHeaded, readChunk, readField, readRow, readContent, Reading, frame, short, refusal, readingOf, readLayout, readDecided, overLimit, readSized, readFrame}
+use Rattle.rules.specs.Reading.{readUnsigned, readSigned, readBody, readString, readOffset, readTimestamp, readTyped, readSpecification, readCount, readList, headerAt, hasEntries, isChunkType, tooLong, isText, readEntries, readData, readHeaded, readChunk, readField, readRow, readContent, Reading, frame, short, refusal, readingOf, readLayout, readFrame}
 use Rattle.rules.specs.Exactness.{frameLength}
-use Rattle.rules.proofs.Bounds.{Bounded, bounded-repeated, bounded-row}
+use Rattle.rules.proofs.Bounds.{Bounded, bounded-repeated, bounded-row, inside-count}
 use Rattle.rules.proofs.Gives.{Gives, check, choice, after, after-number, frame-cases}
 use Rattle.rules.proofs.Parts.{length-part}
 
@@ -54,21 +53,10 @@ module _ (s : List ℕ) where
   from-bounds at (got a next) h k = (k .0, k .1 h)
   from-bounds at (refused n p) h k = tt
 
-  abbrev Within : {A : Type 0} → A → ℕ → Type 0
-  Within _ next = next ≤ length s
-
-  count-within : (at : ℕ) → Gives Within (readCount s at)
-  unfolding readCount
-  count-within at = after-number Within 4 s at _ (λ h. by (two's.signed 4 (bigEndian 4 s at)) h)
-    where
-      by : (z : ℤ) → at + 4 ≤ length s → Gives Within (countOf at z (at + 4))
-      by (pos n) h = h
-      by (negsuc k) h = tt
-
   inside-list : (element : List ℕ → ℕ → Outcome (List (Field Place))) → ((at : ℕ) → Bounded s at (element s at)) → (at : ℕ) → Gives Ends (readList element s at)
   unfolding readList
   inside-list element b at =
-      after Ends Within (readCount s at) _ (count-within at) (λ n next h.
+      after Ends (λ _ next. next ≤ length s) (readCount s at) _ (inside-count s at) (λ n next h.
       after Ends (λ _ last. (next ≤ last) × (last ≤ length s)) (repeated element n s next) _ (from-bounds next (repeated element n s next) h (bounded-repeated s element b n next)) (λ _ last k.
       sum next last (k .0) (k .1)))
     where

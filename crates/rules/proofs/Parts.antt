@@ -1,10 +1,10 @@
 -- Parts of lists: a part of a part is a part, and what stands one behind another stands together. Assumes nothing.
 use mathlib.Core.Path.{_≡_, refl, sym, ap, _∙_}
-use mathlib.Core.List.{List, [], _∷_, _++_, append-assoc}
-use Prim.Native.Nat.{ℕ, zero, suc, _+_, _-_, _<_, _≤_}
+use mathlib.Core.List.{List, [], _∷_, _++_, append-assoc, append-nil}
+use Prim.Native.Nat.{ℕ, zero, suc, _+_, _-_, _^_, _<_, _≤_}
 use native.Mathlib.Omega.{arith}
-use lib.ListN.{length, getD, take, drop, length-append, length-drop, take-append-drop}
-use lib.Seq.{length-take-le, take-nil, take-take, take-at, drop-drop, getD-take, getD-drop}
+use lib.ListN.{length, getD, take, drop, length-append, length-drop, take-append-drop, drop-of-length-le}
+use lib.Seq.{length-take-le, take-nil, take-take, take-at, drop-at, drop-drop, getD-drop}
 use Rattle.wire.specs.Integers.{Bytes, digits, bigEndian}
 use Rattle.wire.proofs.Widths.{integers}
 
@@ -45,6 +45,13 @@ module _ (s : List ℕ) where
         within = q .within;
       }
 
+  behind : (at mid next : ℕ) (a b : List ℕ) → at + length a ≡ mid → Part s at (a ++ b) next → drop mid s ≡ b ++ drop next s
+  behind at mid next a b m p =
+      ap (λ (k : ℕ). drop k s) (sym m)
+      ∙ sym (drop-drop (length a) at s)
+      ∙ ap (drop (length a)) (p .bytes ∙ append-assoc a b (drop next s))
+      ∙ drop-at a (b ++ drop next s) (length a) refl
+
   -- Any bytes that are there.
   pub there : (n at : ℕ) → at + n ≤ length s → Part s at (take n (drop at s)) (at + n)
   there n at h = record { bytes = split n at s; long = ap (λ (k : ℕ). at + k) (length-part n at s h); within = h }
@@ -54,6 +61,38 @@ module _ (s : List ℕ) where
 
   pub number-part : (n at : ℕ) → Bytes s → at + n ≤ length s → Part s at (digits n (bigEndian n s at)) (at + n)
   number-part n at b h = rw (integers n .written-read s at b h) (there n at h)
+
+  -- A part taken apart again.
+  pub first-part : (at mid next : ℕ) (a b : List ℕ) → at + length a ≡ mid → Part s at (a ++ b) next → Part s at a mid
+  first-part at mid next a b m p =
+      record {
+        bytes = p .bytes ∙ append-assoc a b (drop next s) ∙ ap (λ (r : List ℕ). a ++ r) (sym (behind at mid next a b m p));
+        long = m;
+        within = omega (arith, length-append a b, p .long, p .within);
+      }
+
+  pub second-part : (at mid next : ℕ) (a b : List ℕ) → at + length a ≡ mid → Part s at (a ++ b) next → Part s mid b next
+  second-part at mid next a b m p =
+      record { bytes = behind at mid next a b m p; long = omega (arith, length-append a b, p .long); within = p .within }
+
+  -- What s starts with.
+  pub starting : (e rest : List ℕ) → s ≡ e ++ rest → Part s 0 e (length e)
+  starting e rest h =
+      record {
+        bytes = h ∙ ap (λ (r : List ℕ). e ++ r) (sym (ap (drop (length e)) h ∙ drop-at e rest (length e) refl));
+        long = omega arith;
+        within = omega (arith, ap length h, length-append e rest);
+      }
+
+  pub part-number : (n x at next : ℕ) → x < 256 ^ n → Part s at (digits n x) next → bigEndian n s at ≡ x
+  part-number n x at next l p =
+      ap (λ (r : List ℕ). bigEndian n r at) (sym (take-append-drop at s) ∙ ap (λ (r : List ℕ). take at s ++ r) (p .bytes))
+      ∙ ap (bigEndian n (take at s ++ (digits n x ++ drop next s))) (sym (length-take-le at s (omega (arith, p .long, p .within))))
+      ∙ integers n .read-written x (take at s) (drop next s) l
+
+-- A part from the start to the end is the whole.
+pub to-the-end : (s e : List ℕ) (next : ℕ) → length s ≤ next → Part s 0 e next → s ≡ e
+to-the-end s e next l p = p .bytes ∙ (ap (λ (r : List ℕ). e ++ r) (drop-of-length-le s {i = next} l) ∙ append-nil e)
 
 pub bytes-part : (n at : ℕ) (s : List ℕ) → Bytes s → Bytes (take n (drop at s))
 unfolding Bytes
