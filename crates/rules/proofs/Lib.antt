@@ -9,6 +9,7 @@ pub mod SoundFields
 pub mod SoundChunks
 pub mod Listed
 pub mod Heads
+pub mod Elements
 pub mod Sound
 pub mod Beyond
 pub mod CompleteFields
