@@ -1,0 +1,3 @@
+-- Demand 3 for the credit ledger, the marked cases, and what the code of receiving has to show.
+mod Delivers
+mod Answers
