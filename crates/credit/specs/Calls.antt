@@ -37,7 +37,7 @@ readAnswer (rules.frame f) = accepted (frame f)
 readAnswer (rules.short needed) = refused (short needed)
 readAnswer (rules.refusal n place) = refused (unread n place)
 
-abbrev firstNumber : List (Field Place) → ℕ
+abbrev pub firstNumber : List (Field Place) → ℕ
 firstNumber [] = 0
 firstNumber (f ∷ fs) = f .number
 
