@@ -17,7 +17,7 @@ use Rattle.ledger.specs.Calls.{start, add, take, stop, Purpose, forNone, forId,
 use Rattle.ledger.specs.Rules.{Act, aside, at, purposeOf}
 use Rattle.ledger.specs.History.{refusalBy, refusalIn, acceptedFor, AllWithin, Within}
 use Rattle.ledger.specs.Demand3.{history, answerIn, Demand3, Agree}
-use Rattle.ledger.proofs.Demand3.{demand3}
+use Rattle.ledger.proofs.Demand3.{answer-if, demand3}
 use Rattle.credit.specs.Calls.{Call, opening, grant, closing, received, Yield, nothing, frame, Refusal, number, Says, readAnswer, deliverId}
 use Rattle.credit.specs.Step.{actOnFrame, actOnReading, act, credit}
 use Rattle.credit.specs.Demand3.{Story, framePurpose, readPurpose, purpose, opening?, grants, delivers, ruleOpening, ruleGrant, ruleClosing, ruleDeliver, IdBelow, IdsBelow, NoDeliver, Answered, CreditDemand3}
@@ -51,17 +51,13 @@ all-within [] h = tt
 all-within (c ∷ cs) h = (within c (h .0), all-within cs (h .1))
 
 -- The rules by number are the rules by answer.
-if-answer : (t : Bool) (n : ℕ) (y : Yield) → _≡_ {A = Says} (answerBy number (cond t none (some n)) y) (cond t (accepted y) (refused (number n)))
-if-answer true n y = refl
-if-answer false n y = refl
-
 open-rule : (c : ℕ) (o : Option ℕ) (g d : ℕ) → _≡_ {A = Says} (answerBy number (refusalBy (start c) o g d) nothing) (ruleOpening o)
 open-rule c none g d = refl
 open-rule c (some k) g d = refl
 
 grant-rule : (n : ℕ) (o : Option ℕ) (g d : ℕ) → _≡_ {A = Says} (answerBy number (refusalBy (add n) o g d) nothing) (ruleGrant n o g d)
 grant-rule n none g d = refl
-grant-rule n (some k) g d = if-answer (leb (k + g + n) (1000000 + d)) overLimit nothing
+grant-rule n (some k) g d = answer-if number (leb (k + g + n) (1000000 + d)) overLimit nothing
 
 close-rule : (o : Option ℕ) (g d : ℕ) → _≡_ {A = Says} (answerBy number (refusalBy stop o g d) nothing) (ruleClosing o)
 close-rule none g d = refl
@@ -70,7 +66,7 @@ close-rule (some k) g d = refl
 deliver-rule : (f : Fields Place) (o : Option ℕ) (g d : ℕ)
     → _≡_ {A = Says} (answerBy number (refusalBy (take 1 noCredit) o g d) (frame f)) (ruleDeliver f o g d)
 deliver-rule f none g d = refl
-deliver-rule f (some k) g d = if-answer (leb (d + 1) (k + g)) noCredit (frame f)
+deliver-rule f (some k) g d = answer-if number (leb (d + 1) (k + g)) noCredit (frame f)
 
 -- A received frame that the history answers.
 other-answer : (h : Story) (r : rules.Reading) → NoDeliver r → answerIn credit purpose h (actOnReading r) ≡ readAnswer r

@@ -3,3 +3,4 @@ mod Delivers
 mod Answers
 mod Ids
 pub mod Demand3
+pub mod MarkedCases

@@ -14,6 +14,13 @@ pub fn empty() -> [u32; 257]
     ledger::empty()
 }
 
+// Closes all ids of a ledger, whatever it held.
+pub fn clear(credits: &mut [u32; 257])
+    ensures { λ _. ⌜ now (credits .exit) ≡ empty ⌝ }
+{
+    ledger::clear(credits);
+}
+
 pub fn state(credits: &[u32; 257], id: u8) -> IdState
     ensures { λ r. ⌜ entryOf r ≡ entryAt (now (credits .entry)) id ⌝ }
 {

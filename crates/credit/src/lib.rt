@@ -3,6 +3,7 @@
 mod calls;
 mod receiving;
 
+pub use calls::clear;
 pub use calls::close;
 pub use calls::empty;
 pub use calls::grant;

@@ -18,6 +18,12 @@ use Rattle.ledger.specs.History.{opening, added, taken, refusalBy, refus
 use Rattle.ledger.specs.Demand3.{ledgerOf, history, make, answerIn, Demand3, Agree}
 use Rattle.ledger.proofs.Entries.{look-same, look-other, look-empty, length-store, own-entry}
 
+-- An answer by its refusal's test.
+pub answer-if : {Y R : Type 0} (refusing : ℕ → R) (t : Bool) (n : ℕ) (y : Y)
+    → _≡_ {A = Answer Y R} (answerBy refusing (cond t none (some n)) y) (cond t (accepted y) (refused (refusing n)))
+answer-if refusing true n y = refl
+answer-if refusing false n y = refl
+
 -- What the ledger has of an id is what the history says.
 abbrev Stands : List Op → Entry → Type 0
 Stands ops closed = opening ops ≡ none

@@ -25,6 +25,13 @@ pub fn empty() -> [u32; 257]
     [0u32; 257]
 }
 
+// Closes all ids of a ledger, whatever it held.
+pub fn clear(ledger: &mut [u32; 257])
+    ensures { λ _. ⌜ now (ledger .exit) ≡ empty ⌝ }
+{
+    *ledger = empty();
+}
+
 pub fn state(ledger: &[u32; 257], id: u8) -> IdState
     ensures { λ r. ⌜ entryOf r ≡ entryAt (now (ledger .entry)) id ⌝ }
 {
