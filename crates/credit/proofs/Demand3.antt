@@ -18,7 +18,7 @@ use Rattle.ledger.specs.Rules.{Act, aside, at, purposeOf}
 use Rattle.ledger.specs.History.{refusalBy, refusalIn, acceptedFor, AllWithin, Within}
 use Rattle.ledger.specs.Demand3.{history, answerIn, Demand3, Agree}
 use Rattle.ledger.proofs.Demand3.{answer-if, demand3}
-use Rattle.credit.specs.Calls.{Call, opening, grant, closing, received, Yield, nothing, frame, Refusal, number, Says, readAnswer, deliverId}
+use Rattle.credit.specs.Calls.{Call, opening, grant, closing, received, Yield, nothing, frame, Refusal, number, short, unread, Says, readAnswer, deliverId}
 use Rattle.credit.specs.Step.{actOnFrame, actOnReading, act, credit}
 use Rattle.credit.specs.Demand3.{Story, framePurpose, readPurpose, purpose, opening?, grants, delivers, ruleOpening, ruleGrant, ruleClosing, ruleDeliver, IdBelow, IdsBelow, NoDeliver, Answered, CreditDemand3}
 use Rattle.credit.proofs.Delivers.{are-delivers}
@@ -94,6 +94,19 @@ hands-back h (rules.frame f) p = by (deliverId f) p
 hands-back h (rules.short needed) p = absurd p
 hands-back h (rules.refusal n place) p = absurd p
 
+-- The answer of reading that a call's answer was made of.
+abbrev back : Says → rules.Reading
+back (accepted (frame f)) = rules.frame f
+back (accepted nothing) = rules.short 0
+back (refused (short needed)) = rules.short needed
+back (refused (unread n place)) = rules.refusal n place
+back (refused (number n)) = rules.short 0
+
+back-read : (r : rules.Reading) → back (readAnswer r) ≡ r
+back-read (rules.frame f) = refl
+back-read (rules.short needed) = refl
+back-read (rules.refusal n place) = refl
+
 -- One more than the Delivers are at most credit and grants: these exceed the Delivers.
 exceeds : (i : ℕ) (h : Story)
     → ((k : ℕ) × (opening? i h ≡ some k) × (delivers i h + 1 ≤ k + grants i h)) ↔ ((k : ℕ) × (opening? i h ≡ some k) × (delivers i h < k + grants i h))
@@ -116,6 +129,7 @@ credit-demand3 cs w =
       closings = λ later earlier i a e. d .answers later earlier (closing i) a e ∙ close-rule (opening? i earlier) (grants i earlier) (delivers i earlier);
       deliveries = λ later earlier bytes limit f i a e r n. d .answers later earlier (received bytes limit) a e ∙ deliver-answer earlier (readFrame bytes limit) f i r n;
       others = λ later earlier bytes limit a e n. d .answers later earlier (received bytes limit) a e ∙ other-answer earlier (readFrame bytes limit) n;
+      told = λ r r' e. sym (back-read r) ∙ ap back e ∙ back-read r';
       handsBack = λ later earlier bytes limit a e p.
           let q = d .answers later earlier (received bytes limit) a e in
           q ∙ hands-back earlier (readFrame bytes limit) (subst Accepted q p);

@@ -121,6 +121,8 @@ pub record CreditDemand3 (cs : List Call) : Type 0 where
   -- Any other received frame is answered exactly as reading answers it.
   pub others : (later earlier : Story) (bytes : List ℕ) (limit : ℕ) (a : Says)
       → Answered cs later (received bytes limit) a earlier → NoDeliver (readFrame bytes limit) → a ≡ readAnswer (readFrame bytes limit)
+  -- What reading answers can be told from the answer: frame, number, bytes needed and place.
+  pub told : (r r' : rules.Reading) → readAnswer r ≡ readAnswer r' → r ≡ r'
   -- A received frame that is accepted, a Deliver or not, hands back the frame that is read.
   pub handsBack : (later earlier : Story) (bytes : List ℕ) (limit : ℕ) (a : Says)
       → Answered cs later (received bytes limit) a earlier → Accepted a → a ≡ readAnswer (readFrame bytes limit)

@@ -8,7 +8,7 @@ use Rattle.protocol.specs.declared.place.Place.{Place}
 use Rattle.rules.specs.Reading.{readFrame}
 use Rattle.rules.specs.Reading as rules
 use Rattle.layouts.specs.Answer.{answerOf}
-use Rattle.ledger.specs.Calls.{start, add, take, stop, Answer, refused, answerBy}
+use Rattle.ledger.specs.Calls.{Op, start, add, take, stop, Answer, refused, answerBy}
 use Rattle.ledger.specs.Rules.{Act, aside, at, Terms, answerTo, ledgerAfter}
 use Rattle.ledger.specs.Answers.{numberOf}
 use Rattle.ledger.specs.declared.Change.{Change}
@@ -18,9 +18,13 @@ use Rattle.credit.specs.declared.receiving.Received.the-variants.{Readin
 use Rattle.credit.specs.declared.receiving.Subscription.{Subscription}
 use Rattle.credit.specs.declared.receiving.Subscription.the-variants.{Id, Nothing}
 
--- A frame that was read: a Deliver takes one from its id's balance (15 if there is none), any other takes nothing.
+-- What a Deliver asks of its id: to take one from the balance, 15 if there is none.
+abbrev pub spend : Op
+spend = take 1 noCredit
+
+-- A frame that was read: a Deliver spends, any other frame asks nothing of an id.
 abbrev pub actOnFrame : Option ℕ → Fields Place → Act Yield Refusal
-actOnFrame (some i) f = at i (take 1 noCredit) (frame f)
+actOnFrame (some i) f = at i spend (frame f)
 actOnFrame none f = aside (readAnswer (rules.frame f))
 
 abbrev pub actOnReading : rules.Reading → Act Yield Refusal
