@@ -1,7 +1,7 @@
 // The parts of a line.
-ghost use mathlib.Core.Path.{_≡_};
 ghost use Prim.Native.Nat.{_≤_, _<_};
 ghost use lib.ListN.{length};
+ghost use Rattle.io.specs.Counts.{Counts};
 use wire::Number;
 use wire::Width;
 
@@ -84,23 +84,43 @@ fn is_digit(b: u8) -> bool {
 // Puts the bytes whose hexadecimal digits stand from a place on at the start of out, as many as there is room for, and
 // answers how many.
 pub fn hex(line: &[u8], from: usize, out: &mut [u8]) -> usize
-    ensures { λ r. ⌜ r ≤ length (now (out .exit)) ⌝ }
-    ensures { λ _. ⌜ length (now (out .exit)) ≡ length (now (out .entry)) ⌝ }
+    ensures { λ r. ⌜ Counts r (now (out .exit)) ⌝ }
 {
-    let mut count: usize = 0;
-    let mut at = from;
-    while count < out.len() {
-        if line.len() <= at {
-            break;
-        }
-        if line.len() - at < 2 {
-            break;
-        }
-        out[count] = digit(line[at]) * 16 + digit(line[at + 1]);
-        count += 1;
-        at += 2;
+    let n = pairs(line, from, out.len());
+    let mut i = 0;
+    while i < n {
+        out[i] = octet(line, from, i);
+        i += 1;
     }
-    count
+    n
+}
+
+// How many pairs of digits stand from a place on, if there is room for them.
+fn pairs(line: &[u8], from: usize, room: usize) -> usize
+    ensures { λ r. ⌜ r ≤ room ⌝ }
+{
+    if line.len() < from {
+        return 0;
+    }
+    let n = (line.len() - from) / 2;
+    if room < n {
+        return room;
+    }
+    n
+}
+
+// The byte of pair i, or 0 where there is none.
+fn octet(line: &[u8], from: usize, i: usize) -> u8 {
+    if line.len() < from {
+        return 0;
+    }
+    if line.len() - from < 2 {
+        return 0;
+    }
+    if (line.len() - from - 2) / 2 < i {
+        return 0;
+    }
+    digit(line[from + i * 2]) * 16 + digit(line[from + i * 2 + 1])
 }
 
 fn digit(b: u8) -> u8
