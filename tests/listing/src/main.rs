@@ -36,7 +36,7 @@ fn main() -> ExitCode {
         }
     }
     println!("seed {seed}");
-    match check(&program, &repository.join("tests/captures"), seed) {
+    match check(&program, &repository.join("samples"), seed) {
         Ok(runs) => {
             println!("compared {runs} listings, 0 differences");
             ExitCode::SUCCESS

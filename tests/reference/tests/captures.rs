@@ -24,7 +24,7 @@ fn the_listing_of_a_heartbeat_and_a_cut_credit() {
 #[test]
 fn captures_are_listed_as_expected() {
     let mut listed = 0;
-    for file in fs::read_dir(Path::new(env!("CARGO_MANIFEST_DIR")).join("../captures")).unwrap() {
+    for file in fs::read_dir(Path::new(env!("CARGO_MANIFEST_DIR")).join("../../samples")).unwrap() {
         let capture = file.unwrap().path();
         if capture.extension().is_some_and(|e| e == "bin") {
             let expected = fs::read_to_string(capture.with_extension("list")).unwrap();
@@ -32,12 +32,12 @@ fn captures_are_listed_as_expected() {
             listed += 1;
         }
     }
-    assert_eq!(listed, 7);
+    assert_eq!(listed, 8);
 }
 
 #[test]
 fn frames_that_were_read_are_written_as_they_were() {
-    for file in fs::read_dir(Path::new(env!("CARGO_MANIFEST_DIR")).join("../captures")).unwrap() {
+    for file in fs::read_dir(Path::new(env!("CARGO_MANIFEST_DIR")).join("../../samples")).unwrap() {
         let capture = file.unwrap().path();
         if capture.extension().is_some_and(|e| e == "bin") {
             let bytes = fs::read(&capture).unwrap();
