@@ -12,7 +12,7 @@ use Rattle.ledger.specs.Calls.{Op, start, add, take, stop, Answer, refused, ans
 use Rattle.ledger.specs.Rules.{Act, aside, at, Terms, answerTo, ledgerAfter}
 use Rattle.ledger.specs.Answers.{numberOf}
 use Rattle.ledger.specs.declared.Change.{Change}
-use Rattle.credit.specs.Calls.{Call, opening, grant, closing, received, Yield, nothing, frame, Refusal, number, Says, readAnswer, deliverId}
+use Rattle.credit.specs.Calls.{Call, opening, grant, closing, received, Yield, nothing, frame, Refusal, number, Reply, readAnswer, deliverId}
 use Rattle.credit.specs.declared.receiving.Received.{Received}
 use Rattle.credit.specs.declared.receiving.Received.the-variants.{Reading, Refused}
 use Rattle.credit.specs.declared.receiving.Subscription.{Subscription}
@@ -42,17 +42,17 @@ abbrev pub credit : Terms Call Yield Refusal
 credit = record { refusing = number; act = act }
 
 -- A call's answer, and the ledger after it.
-abbrev pub answer : List ℕ → Call → Says
+abbrev pub answer : List ℕ → Call → Reply
 answer l c = answerTo number l (act c)
 
 abbrev pub after : List ℕ → Call → List ℕ
 after l c = ledgerAfter l (act c)
 
 -- What the code's answers say.
-abbrev pub answerOfChange : Change → Says
+abbrev pub answerOfChange : Change → Reply
 answerOfChange r = answerBy number (numberOf r) nothing
 
-abbrev pub answerOfReceived : Received → Says
+abbrev pub answerOfReceived : Received → Reply
 answerOfReceived (Reading r) = readAnswer (answerOf r)
 answerOfReceived (Refused n) = refused (number n)
 

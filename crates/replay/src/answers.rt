@@ -38,7 +38,7 @@ pub fn state(of: IdState) {
 }
 
 // The other lines, which tell what the calls behind them are about.
-pub fn story(line: &[u8]) {
+pub fn comment(line: &[u8]) {
     say(line);
     say(b"\n");
 }

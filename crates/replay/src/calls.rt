@@ -35,7 +35,7 @@ fn call(line: &[u8], credits: &mut [u32; 257], publishers: &mut [u32; 257]) {
             (more % 4294967296) as u32,
         )),
         Word::Out => answers::state(publisher::state(publishers, id)),
-        Word::Unknown => answers::story(line),
+        Word::Unknown => answers::comment(line),
     }
 }
 

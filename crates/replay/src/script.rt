@@ -1,7 +1,9 @@
 // The parts of a line.
+ghost use mathlib.Core.Path.{_≡_};
 ghost use Prim.Native.Nat.{_≤_, _<_};
-ghost use lib.ListN.{length};
+ghost use lib.ListN.{length, drop};
 ghost use Rattle.io.specs.Counts.{Counts};
+ghost use Rattle.replay.specs.Numbers.{between, numberIn, hexValue};
 use wire::Number;
 use wire::Width;
 
@@ -59,26 +61,29 @@ pub fn behind(line: &[u8], from: usize) -> usize
 
 // The decimal number whose digits begin at a place; of a longer one the last ten digits.
 pub fn number(line: &[u8], from: usize) -> u64
-    ensures { λ r. ⌜ r < 10_000_000_000 ⌝ }
+    ensures { λ r. ⌜ r ≡ numberIn 0 (drop from (now (line .entry))) ⌝ }
 {
     let mut value: u64 = 0;
     let mut at = from;
     while at < line.len() {
         let b = line[at];
-        if !is_digit(b) {
-            break;
+        if between(0x30, 0x39, b) {
+            value = value % 1_000_000_000 * 10 + digit(b) as u64;
+            at += 1;
+        } else {
+            return value;
         }
-        value = value % 1_000_000_000 * 10 + (b % 16 % 10) as u64;
-        at += 1;
     }
     value
 }
 
-fn is_digit(b: u8) -> bool {
-    match b {
-        0x30..=0x39 => true,
-        _ => false,
+fn between(low: u8, high: u8, b: u8) -> bool
+    ensures { λ r. ⌜ r ≡ between low high b ⌝ }
+{
+    if b < low {
+        return false;
     }
+    b <= high
 }
 
 // Puts the bytes whose hexadecimal digits stand from a place on at the start of out, as many as there is room for, and
@@ -123,13 +128,19 @@ fn octet(line: &[u8], from: usize, i: usize) -> u8 {
     digit(line[from + i * 2]) * 16 + digit(line[from + i * 2 + 1])
 }
 
+// A hexadecimal digit's value; any other byte counts as 0.
 fn digit(b: u8) -> u8
+    ensures { λ r. ⌜ r ≡ hexValue b ⌝ }
     ensures { λ r. ⌜ r < 16 ⌝ }
 {
-    match b {
-        0x30..=0x39 => b - 0x30,
-        0x41..=0x46 => b - 0x37,
-        0x61..=0x66 => b - 0x57,
-        _ => 0,
+    if between(0x30, 0x39, b) {
+        return b - 0x30;
     }
+    if between(0x41, 0x46, b) {
+        return b - 0x37;
+    }
+    if between(0x61, 0x66, b) {
+        return b - 0x57;
+    }
+    0
 }
