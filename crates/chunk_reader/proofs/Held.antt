@@ -41,6 +41,12 @@ use Rattle.chunk_reader.proofs.spot.Spot.Laws as S′
 abbrev pub B : Lfts 1 → RattleType
 B κs = T.the-row (namedLft 1 0 tt κs)
 
+abbrev pub reader-vals : Lfts 1 → ChunkReader → List Val
+reader-vals κs d = LL.vals (T.the-type (namedLft 1 0 tt κs)) (T′.the-laws (namedLft 1 0 tt κs)) d
+
+pub reader-tells : (κs : Lfts 1) → Tells (B κs) (Is (B κs)) (reader-vals κs)
+reader-tells κs = LL.tells (T.the-type (namedLft 1 0 tt κs)) (T′.the-laws (namedLft 1 0 tt κs))
+
 -- The machine values of a place and of a slice.
 abbrev pub spot-val : Spot → Val
 spot-val p = only (LL.vals S.the-type S′.the-laws p)

@@ -19,7 +19,7 @@ use ghost.Atoms.{Atoms, sem}
 use contract.Lifetimes.{Lfts}
 use contract.Monad.{Fun, fact}
 use contract.Running.{givenOf, tables, tablesOf}
-use types.Kit.{Given, ‵, raw, given, some, later, _⊛_, ⋆, _$_, _∵_, !, qed, by, move, keep, drop, use0, use1, use2, split, join, learn, pick, rewrite, fsplit, fjoin, suffices, frame, await, done}
+use types.Kit.{Given, Item, ‵, raw, given, some, later, _⊛_, ⋆, _$_, _∵_, !, qed, by, move, keep, drop, use0, use1, use2, split, join, learn, pick, rewrite, fsplit, fjoin, suffices, frame, await, done}
 use types.Part.{agg, whole, sub, look-in}
 use types.Run.{look, init, forget, stop, fld, from, load, of-opd, and-then, no-more, assigns, land, returns, enter, alloc1, alloc0, params1, pass1, pass0, free1, free0}
 use sound.WpLaws.{FmC, fmOf, WpFn-mono}
@@ -62,13 +62,7 @@ use Rattle.chunk_reader.proofs.reader.message.Key.{name as #message}
 use Rattle.chunk_reader.proofs.reader.message as message
 use Rattle.chunk_reader.proofs.reader.message.Statement as stated
 use Rattle.chunk_reader.proofs.reader.message.Code as code
-
-abbrev sv : Spot → Val
-sv p = only (LL.vals S.the-type S′.the-laws p)
-
--- the struct's type, over the signature's lifetimes
-abbrev B : Lfts 1 → RattleType
-B κs = T.the-row (namedLft 1 0 tt κs)
+use Rattle.chunk_reader.proofs.Held.{B, spot-val, slice-val, reader-vals, reader-tells, Sl, D, L, mach, Own, OwnS, token, apart, handed, answered}
 
 abbrev stayed : Stays (message.ended .signature .params) (message.ended .kept)
 stayed = (stay-none B yes, tt)
@@ -81,65 +75,39 @@ module _ {M : Type 1} (𝓤 : URA M) (H : Heap 𝓤) (A : Atoms 𝓤) (mem : Mem
   part-of κ s p r = exE 𝓤 _ (λ ws. snd∗ 𝓤 (sem 𝓤 H A (lasts part.ended (κ, tt) (s, (p, tt)) ws)) (fact 𝓤 (r .now ≡ messageIn (s .now) (p .found))))
 
 module _ {M : Type 1} (𝓤 : URA M) (H : Heap 𝓤) (A : Atoms 𝓤) (W : Given 𝓤 H A) (mem : Memory → SProp 𝓤) (run : Routine → Fun 𝓤) (κ : Lft) (q : Share) (d : ChunkReader) where
-  abbrev D : Declared
-  D = T.the-type (namedLft 1 0 tt (κ, tt))
-
-  abbrev L : LL.Laws D
-  L = T′.the-laws (namedLft 1 0 tt (κ, tt))
-
-  abbrev vd : Values (D .parts)
-  vd = (d .chunk, (d .spot, tt))
-
-  abbrev mach : Val
-  mach = only (LL.vals D L d)
-
-  -- the machine value of chunk
-  abbrev v : Val
-  v = sliceVal (d .chunk .ptr) (length (d .chunk .now))
+  abbrev tok : Item 𝓤
+  tok = token 𝓤 H A W κ q
 
   abbrev Post : Val → SProp 𝓤
-  Post = walkOf 𝓤 H A message.ended stayed (message.clauses 𝓤 H A mem run) .post (((κ, tt), (q, tt), tt, (d, tt), (mach ∷ [], tt)), tt)
-
-  abbrev Own : Fml
-  Own = B (κ, tt) .own d (mach ∷ [])
-
-  -- what the slice owns
-  abbrev OwnS : Fml
-  OwnS = ShrSlice (named 0) κ u8 .own (d .chunk) (v ∷ [])
+  Post = walkOf 𝓤 H A message.ended stayed (message.clauses 𝓤 H A mem run) .post (((κ, tt), (q, tt), tt, (d, tt), (mach κ d ∷ [], tt)), tt)
 
   abbrev to : Part 𝓤 H A mem run .Ghost
-  to = (((κ, tt), (q, tt), tt, (d .chunk, (d .spot, tt)), (v ∷ [], (sv (d .spot) ∷ [], tt))), tt)
+  to = (((κ, tt), (q, tt), tt, (d .chunk, (d .spot, tt)), (slice-val (d .chunk) ∷ [], (spot-val (d .spot) ∷ [], tt))), tt)
 
-  asks : Is S.the-row (d .spot) (sv (d .spot) ∷ []) → ent 𝓤 (sep 𝓤 (sep 𝓤 (A .lft κ q) (emp 𝓤)) (sem 𝓤 H A OwnS)) (Part 𝓤 H A mem run .pre to)
+  asks : Is S.the-row (d .spot) (spot-val (d .spot) ∷ []) → ent 𝓤 (sep 𝓤 (sep 𝓤 (A .lft κ q) (emp 𝓤)) (sem 𝓤 H A (OwnS κ (d .chunk)))) (Part 𝓤 H A mem run .pre to)
   asks is =
-      qed W ((‵ (flft κ q) ⊛ ‵ ftrue) ∷ ‵ OwnS ∷ []) ∵ nothing ! $ owned ! S.the-row (Is S.the-row) (LL.makes S.the-type S′.the-plain 𝓤 H A) (d .spot) _ is $ fjoin ! $ move ! (2 ∷ 0 ∷ []) $ fjoin ! $ move ! (1 ∷ 0 ∷ []) $ join ! $ frame ! $ done !
+      qed W (tok ∷ ‵ (OwnS κ (d .chunk)) ∷ []) ∵ nothing ! $ owned ! S.the-row (Is S.the-row) (LL.makes S.the-type S′.the-plain 𝓤 H A) (d .spot) _ is $ fjoin ! $ move ! (2 ∷ 0 ∷ []) $ fjoin ! $ move ! (1 ∷ 0 ∷ []) $ join ! $ frame ! $ done !
 
-  exits : (r : RefT (List ℕ)) (u : Val) → r .now ≡ messageIn (d .chunk .now) (d .spot .found) → ent 𝓤 (⋆ 𝓤 H A ((‵ (flft κ q) ⊛ ‵ ftrue) ∷ ‵ Own ∷ ‵ (ShrSlice (named 0) κ u8 .own r (u ∷ [])) ∷ [])) (Post u)
+  exits : (r : RefT (List ℕ)) (u : Val) → r .now ≡ messageIn (d .chunk .now) (d .spot .found) → ent 𝓤 (⋆ 𝓤 H A (tok ∷ ‵ (Own κ d) ∷ ‵ (ShrSlice (named 0) κ u8 .own r (u ∷ [])) ∷ [])) (Post u)
   exits r u e =
-      qed W ((‵ (flft κ q) ⊛ ‵ ftrue) ∷ ‵ Own ∷ ‵ (ShrSlice (named 0) κ u8 .own r (u ∷ [])) ∷ []) ∵
-      suffices ! _ (ends-at 𝓤 H A message.ended stayed (message.clauses 𝓤 H A mem run) W (((κ, tt), (q, tt), tt, (d, tt), (mach ∷ [], tt)), tt) u r (tt, tt) (tt, tt)) $ says ! e $
+      qed W (tok ∷ ‵ (Own κ d) ∷ ‵ (ShrSlice (named 0) κ u8 .own r (u ∷ [])) ∷ []) ∵
+      suffices ! _ (ends-at 𝓤 H A message.ended stayed (message.clauses 𝓤 H A mem run) W (((κ, tt), (q, tt), tt, (d, tt), (mach κ d ∷ [], tt)), tt) u r (tt, tt) (tt, tt)) $ says ! e $
       frame ! $ nothing ! $ move ! (1 ∷ 0 ∷ []) $ fjoin ! $ frame ! $ done !
 
-  -- what the struct owns gives what the slice owns, and is kept
-  apart : ent 𝓤 (sem 𝓤 H A Own) (sep 𝓤 (sem 𝓤 H A Own) (sem 𝓤 H A OwnS))
-  apart =
-      qed W (‵ Own ∷ []) ∵ use1 W (‵ Own ⊛ ‵ Own) (LL.copy D (T′.the-copy (namedLft 1 0 tt (κ, tt))) 𝓤 H A W .twice d (mach ∷ [])) $ split ! $ frame ! $
-      use1 W (given (mach ∷ [] ≡ mach ∷ []) (‵ (all-own (D .parts) L vd))) (own-open 𝓤 H A W D L vd mach) $ learn ! (λ _. use1 W (‵ (ownAt (D .parts) L 0 (d .chunk)) ⊛ ‵ (rest (D .parts) L 0 vd)) (own-out 𝓤 H A W (D .parts) L 0 vd) $ split ! $ move ! (1 ∷ []) $ drop ! $ done !)
-
   module _ (C : Calls 𝓤 H) (Λ : Loops 𝓤 H) (fm : FmC 𝓤 H (W .laws) C) (known : Triple 𝓤 (C #part) (Part 𝓤 H A mem run)) where
-    walk : Is (B (κ, tt)) d (mach ∷ []) → ent 𝓤 (onEntry 𝓤 H A message.signature (κ, tt) (q, tt) (d, tt) (mach ∷ [], tt)) (WpFn 𝓤 H C Λ code.function (mach ∷ []) Post)
+    walk : Is (B (κ, tt)) d (mach κ d ∷ []) → ent 𝓤 (onEntry 𝓤 H A message.signature (κ, tt) (q, tt) (d, tt) (mach κ d ∷ [], tt)) (WpFn 𝓤 H C Λ code.function (mach κ d ∷ []) Post)
     walk isd =
-        let fields = LL.owed D L d _ isd in
-        let ws = shr-slice-lawful 𝓤 H A W (named 0) κ u8 .typed (d .chunk) (v ∷ []) (fields .0) .0 in let wp = LL.lawful S.the-type S′.the-laws 𝓤 H A W .typed (d .spot) _ (fields .1 .0) .0 in
-        qed W ((‵ (flft κ q) ⊛ ‵ ftrue) ∷ ‵ (owns (B (κ, tt) ∷ []) (d, tt) (mach ∷ [], tt)) ∷ []) ∵ enter ! C Λ code.function (mach ∷ []) _ $
-        alloc1 ! (λ l₀. alloc1 ! (λ l₁. alloc1 ! (λ l₂. alloc1 ! (λ l₃. alloc0 ! $ params1 ! $ pass1 ! (init ! 4 refl (LL.lawful D L 𝓤 H A W .typed d _ isd .0)) $ pass0 ! $
+        let fields = LL.owed (D κ) (L κ) d _ isd in
+        let ws = shr-slice-lawful 𝓤 H A W (named 0) κ u8 .typed (d .chunk) (slice-val (d .chunk) ∷ []) (fields .0) .0 in let wp = LL.lawful S.the-type S′.the-laws 𝓤 H A W .typed (d .spot) _ (fields .1 .0) .0 in
+        qed W (tok ∷ ‵ (owns (B (κ, tt) ∷ []) (d, tt) (mach κ d ∷ [], tt)) ∷ []) ∵ enter ! C Λ code.function (mach κ d ∷ []) _ $
+        alloc1 ! (λ l₀. alloc1 ! (λ l₁. alloc1 ! (λ l₂. alloc1 ! (λ l₃. alloc0 ! $ params1 ! $ pass1 ! (init ! 4 refl (LL.lawful (D κ) (L κ) 𝓤 H A W .typed d _ isd .0)) $ pass0 ! $
         -- [_3; …; _2; …; _1; …; room for _0; …; the token; what r owns]
         assigns ! (of-opd ! (load ! (from ! (fld ! refl (stop !))) (look-in ! 4 (sub ! 0 refl (whole !))))) (from ! (stop !)) (init ! 2 refl ws) $
         assigns ! (of-opd ! (load ! (from ! (fld ! refl (stop !))) (look-in ! 4 (sub ! 1 refl (whole !))))) (from ! (stop !)) (init ! 0 refl wp) $
-        move ! (8 ∷ 9 ∷ []) $ move ! (1 ∷ []) $ fsplit ! $ use1 W (‵ Own ⊛ ‵ OwnS) apart $ split ! $ move ! (3 ∷ 1 ∷ []) $ use2 W (raw (Part 𝓤 H A mem run .pre to)) (asks (fields .1 .0)) $
+        move ! (8 ∷ 9 ∷ []) $ move ! (1 ∷ []) $ fsplit ! $ use1 W (‵ (Own κ d) ⊛ ‵ (OwnS κ (d .chunk))) (apart 𝓤 H A W κ d) $ split ! $ move ! (3 ∷ 1 ∷ []) $ use2 W (raw (Part 𝓤 H A mem run .pre to)) (asks (fields .1 .0)) $
         -- [`part`'s; what r owns; true; _3; …; _2; …; _1; …; room for _0; …]
         calls-at ! fm (Part 𝓤 H A mem run) known to (and-then ! (load ! (from ! (stop !)) (look ! 5 refl)) (and-then ! (load ! (from ! (stop !)) (look ! 3 refl)) (no-more !))) (λ w.
-        use1 W (later (some (λ (t : RefT (List ℕ)). ((‵ (flft κ q) ⊛ ‵ ftrue) ⊛ ‵ (ShrSlice (named 0) κ u8 .own t (w ∷ []))) ⊛ raw (ensured 𝓤 H A part.ended (part.clauses 𝓤 H A mem run) (κ, tt) (d .chunk, (d .spot, tt)) tt t)))) (id⊢ 𝓤 _) $ await ! tt $ pick ! (λ t.
+        use1 W (later (some (λ (t : RefT (List ℕ)). (tok ⊛ ‵ (ShrSlice (named 0) κ u8 .own t (w ∷ []))) ⊛ raw (ensured 𝓤 H A part.ended (part.clauses 𝓤 H A mem run) (κ, tt) (d .chunk, (d .spot, tt)) tt t)))) (id⊢ 𝓤 _) $ await ! tt $ pick ! (λ t.
         split ! $ move ! (1 ∷ []) $ use1 W (raw (fact 𝓤 (t .now ≡ messageIn (d .chunk .now) (d .spot .found)))) (part-of 𝓤 H A mem run κ (d .chunk) (d .spot) t) $ heard ! (t .now ≡ messageIn (d .chunk .now) (d .spot .found)) (λ et. split ! $ move ! (1 ∷ []) $
         peeks ! (ShrSlice (named 0) κ u8) (Is (ShrSlice (named 0) κ u8)) (shows 𝓤 H A (ShrSlice (named 0) κ u8)) t (w ∷ []) (λ ist.
         -- [the part; the token; what r owns; true; _3; …]
@@ -150,7 +118,7 @@ module _ {M : Type 1} (𝓤 : URA M) (H : Heap 𝓤) (A : Atoms 𝓤) (W : Given
 
 module _ {M : Type 1} (𝓤 : URA M) (H : Heap 𝓤) (A : Atoms 𝓤) (W : Given 𝓤 H A) (mem : Memory → SProp 𝓤) (run : Routine → Fun 𝓤) (𝓣 : Tables 𝓤 H) (known : Triple 𝓤 (𝓣 .C #part) (Part 𝓤 H A mem run)) where
   message-walks : Walks 𝓤 H A message.ended stayed (WpFn 𝓤 H (𝓣 .C) (𝓣 .Λ) code.function) (message.clauses 𝓤 H A mem run)
-  message-walks = walked 𝓤 H A message.ended stayed (message.clauses 𝓤 H A mem run) (WpFn 𝓤 H (𝓣 .C) (𝓣 .Λ) code.function) (λ κs. (LL.vals (T.the-type (namedLft 1 0 tt κs)) (T′.the-laws (namedLft 1 0 tt κs)), tt)) (λ κs. (LL.tells (T.the-type (namedLft 1 0 tt κs)) (T′.the-laws (namedLft 1 0 tt κs)), tt))
+  message-walks = walked 𝓤 H A message.ended stayed (message.clauses 𝓤 H A mem run) (WpFn 𝓤 H (𝓣 .C) (𝓣 .Λ) code.function) (λ κs. (reader-vals κs, tt)) (λ κs. (reader-tells κs, tt))
       (λ κs qs bounds a g are. via 𝓤 _ (fst∗ 𝓤 _ (emp 𝓤)) (walk 𝓤 H A W mem run (κs .0) (qs .0) (a .0) (𝓣 .C) (𝓣 .Λ) (fmOf 𝓤 H (W .laws) 𝓣) known (are .0)))
 
   message-meets : Meets 𝓤 H A message.signature (WpFn 𝓤 H (𝓣 .C) (𝓣 .Λ) code.function) (message.spec 𝓤 H A mem run)

@@ -19,7 +19,7 @@ use ghost.Atoms.{Atoms, sem}
 use contract.Lifetimes.{Lfts}
 use contract.Monad.{Fun, fact}
 use contract.Running.{givenOf, tables, tablesOf}
-use types.Kit.{Given, ‵, raw, given, some, later, _⊛_, ⋆, _$_, _∵_, !, qed, by, move, keep, drop, use0, use1, use2, split, join, learn, pick, rewrite, fsplit, fjoin, suffices, frame, await, done}
+use types.Kit.{Given, Item, ‵, raw, given, some, later, _⊛_, ⋆, _$_, _∵_, !, qed, by, move, keep, drop, use0, use1, use2, split, join, learn, pick, rewrite, fsplit, fjoin, suffices, frame, await, done}
 use types.Part.{agg, whole, sub, look-in}
 use types.Run.{look, init, forget, stop, fld, from, load, of-opd, and-then, no-more, assigns, land, returns, enter, alloc1, alloc0, params1, pass1, pass0, free1, free0}
 use sound.WpLaws.{FmC, fmOf, WpFn-mono}
@@ -62,13 +62,7 @@ use Rattle.chunk_reader.proofs.reader.next.Key.{name as #next}
 use Rattle.chunk_reader.proofs.reader.next as next
 use Rattle.chunk_reader.proofs.reader.next.Statement as stated
 use Rattle.chunk_reader.proofs.reader.next.Code as code
-
-abbrev sv : Spot → Val
-sv p = only (LL.vals S.the-type S′.the-laws p)
-
--- the struct's type, over the signature's lifetimes
-abbrev B : Lfts 1 → RattleType
-B κs = T.the-row (namedLft 1 0 tt κs)
+use Rattle.chunk_reader.proofs.Held.{B, spot-val, slice-val, reader-vals, reader-tells, Sl, D, L, mach, Own, OwnS, token, apart, handed, answered}
 
 abbrev stayed : Stays (next.ended .signature .params) (next.ended .kept)
 stayed = (stay-none B yes, tt)
@@ -81,22 +75,6 @@ module _ {M : Type 1} (𝓤 : URA M) (H : Heap 𝓤) (A : Atoms 𝓤) (mem : Mem
   advance-of κ s p r = exE 𝓤 _ (λ ws. snd∗ 𝓤 (sem 𝓤 H A (lasts advance.ended (κ, tt) (s, (p, tt)) ws)) (fact 𝓤 (r ≡ advanced (s .now) p)))
 
 module _ {M : Type 1} (𝓤 : URA M) (H : Heap 𝓤) (A : Atoms 𝓤) (W : Given 𝓤 H A) (mem : Memory → SProp 𝓤) (run : Routine → Fun 𝓤) (κ : Lft) (q : Share) (d : ChunkReader) where
-  abbrev D : Declared
-  D = T.the-type (namedLft 1 0 tt (κ, tt))
-
-  abbrev L : LL.Laws D
-  L = T′.the-laws (namedLft 1 0 tt (κ, tt))
-
-  abbrev vd : Values (D .parts)
-  vd = (d .chunk, (d .spot, tt))
-
-  abbrev mach : Val
-  mach = only (LL.vals D L d)
-
-  -- the machine value of chunk
-  abbrev v : Val
-  v = sliceVal (d .chunk .ptr) (length (d .chunk .now))
-
   -- the place after the question, and the reader at it
   abbrev p′ : Spot
   p′ = advanced (d .chunk .now) (d .spot)
@@ -104,69 +82,54 @@ module _ {M : Type 1} (𝓤 : URA M) (H : Heap 𝓤) (A : Atoms 𝓤) (W : Given
   abbrev d′ : ChunkReader
   d′ = nextReader d
 
-  abbrev mach′ : Val
-  mach′ = only (LL.vals D L d′)
+  abbrev tok : Item 𝓤
+  tok = token 𝓤 H A W κ q
 
   abbrev Post : Val → SProp 𝓤
-  Post = walkOf 𝓤 H A next.ended stayed (next.clauses 𝓤 H A mem run) .post (((κ, tt), (q, tt), tt, (d, tt), (mach ∷ [], tt)), tt)
-
-  abbrev Own : Fml
-  Own = B (κ, tt) .own d (mach ∷ [])
-
-  -- what the slice owns
-  abbrev OwnS : Fml
-  OwnS = ShrSlice (named 0) κ u8 .own (d .chunk) (v ∷ [])
+  Post = walkOf 𝓤 H A next.ended stayed (next.clauses 𝓤 H A mem run) .post (((κ, tt), (q, tt), tt, (d, tt), (mach κ d ∷ [], tt)), tt)
 
   abbrev to : Advance 𝓤 H A mem run .Ghost
-  to = (((κ, tt), (q, tt), tt, (d .chunk, (d .spot, tt)), (v ∷ [], (sv (d .spot) ∷ [], tt))), tt)
+  to = (((κ, tt), (q, tt), tt, (d .chunk, (d .spot, tt)), (slice-val (d .chunk) ∷ [], (spot-val (d .spot) ∷ [], tt))), tt)
 
-  asks : Is S.the-row (d .spot) (sv (d .spot) ∷ []) → ent 𝓤 (sep 𝓤 (sep 𝓤 (A .lft κ q) (emp 𝓤)) (sem 𝓤 H A OwnS)) (Advance 𝓤 H A mem run .pre to)
+  asks : Is S.the-row (d .spot) (spot-val (d .spot) ∷ []) → ent 𝓤 (sep 𝓤 (sep 𝓤 (A .lft κ q) (emp 𝓤)) (sem 𝓤 H A (OwnS κ (d .chunk)))) (Advance 𝓤 H A mem run .pre to)
   asks is =
-      qed W ((‵ (flft κ q) ⊛ ‵ ftrue) ∷ ‵ OwnS ∷ []) ∵ nothing ! $ owned ! S.the-row (Is S.the-row) (LL.makes S.the-type S′.the-plain 𝓤 H A) (d .spot) _ is $ fjoin ! $ move ! (2 ∷ 0 ∷ []) $ fjoin ! $ move ! (1 ∷ 0 ∷ []) $ join ! $ frame ! $ done !
+      qed W (tok ∷ ‵ (OwnS κ (d .chunk)) ∷ []) ∵ nothing ! $ owned ! S.the-row (Is S.the-row) (LL.makes S.the-type S′.the-plain 𝓤 H A) (d .spot) _ is $ fjoin ! $ move ! (2 ∷ 0 ∷ []) $ fjoin ! $ move ! (1 ∷ 0 ∷ []) $ join ! $ frame ! $ done !
 
-  exits : Is S.the-row p′ (sv p′ ∷ []) → ent 𝓤 (⋆ 𝓤 H A ((‵ (flft κ q) ⊛ ‵ ftrue) ∷ ‵ Own ∷ ‵ OwnS ∷ [])) (Post mach′)
+  exits : Is S.the-row p′ (spot-val p′ ∷ []) → ent 𝓤 (⋆ 𝓤 H A (tok ∷ ‵ (Own κ d) ∷ ‵ (OwnS κ (d .chunk)) ∷ [])) (Post (mach κ d′))
   exits isp =
-      qed W ((‵ (flft κ q) ⊛ ‵ ftrue) ∷ ‵ Own ∷ ‵ OwnS ∷ []) ∵
-      suffices ! _ (ends-at 𝓤 H A next.ended stayed (next.clauses 𝓤 H A mem run) W (((κ, tt), (q, tt), tt, (d, tt), (mach ∷ [], tt)), tt) mach′ d′ (tt, tt) (tt, tt)) $ says ! refl $
+      qed W (tok ∷ ‵ (Own κ d) ∷ ‵ (OwnS κ (d .chunk)) ∷ []) ∵
+      suffices ! _ (ends-at 𝓤 H A next.ended stayed (next.clauses 𝓤 H A mem run) W (((κ, tt), (q, tt), tt, (d, tt), (mach κ d ∷ [], tt)), tt) (mach κ d′) d′ (tt, tt) (tt, tt)) $ says ! refl $
       frame ! $ nothing ! $ move ! (1 ∷ 0 ∷ []) $ fjoin ! $ frame ! $
-      nothing ! $ owned ! S.the-row (Is S.the-row) (LL.makes S.the-type S′.the-plain 𝓤 H A) p′ _ isp $ fjoin ! $ move ! (1 ∷ 0 ∷ []) $ fjoin ! $ by ! (own-shut 𝓤 H A W D L (d .chunk, (p′, tt)))
-
-  -- what the struct owns gives what the slice owns, and is kept
-  apart : ent 𝓤 (sem 𝓤 H A Own) (sep 𝓤 (sem 𝓤 H A Own) (sem 𝓤 H A OwnS))
-  apart =
-      qed W (‵ Own ∷ []) ∵ use1 W (‵ Own ⊛ ‵ Own) (LL.copy D (T′.the-copy (namedLft 1 0 tt (κ, tt))) 𝓤 H A W .twice d (mach ∷ [])) $ split ! $ frame ! $
-      use1 W (given (mach ∷ [] ≡ mach ∷ []) (‵ (all-own (D .parts) L vd))) (own-open 𝓤 H A W D L vd mach) $ learn ! (λ _. use1 W (‵ (ownAt (D .parts) L 0 (d .chunk)) ⊛ ‵ (rest (D .parts) L 0 vd)) (own-out 𝓤 H A W (D .parts) L 0 vd) $ split ! $ move ! (1 ∷ []) $ drop ! $ done !)
+      nothing ! $ owned ! S.the-row (Is S.the-row) (LL.makes S.the-type S′.the-plain 𝓤 H A) p′ _ isp $ fjoin ! $ move ! (1 ∷ 0 ∷ []) $ fjoin ! $ by ! (own-shut 𝓤 H A W (D κ) (L κ) (d .chunk, (p′, tt)))
 
   module _ (C : Calls 𝓤 H) (Λ : Loops 𝓤 H) (fm : FmC 𝓤 H (W .laws) C) (known : Triple 𝓤 (C #advance) (Advance 𝓤 H A mem run)) where
-    walk : Is (B (κ, tt)) d (mach ∷ []) → ent 𝓤 (onEntry 𝓤 H A next.signature (κ, tt) (q, tt) (d, tt) (mach ∷ [], tt)) (WpFn 𝓤 H C Λ code.function (mach ∷ []) Post)
+    walk : Is (B (κ, tt)) d (mach κ d ∷ []) → ent 𝓤 (onEntry 𝓤 H A next.signature (κ, tt) (q, tt) (d, tt) (mach κ d ∷ [], tt)) (WpFn 𝓤 H C Λ code.function (mach κ d ∷ []) Post)
     walk isd =
-        let fields = LL.owed D L d _ isd in
-        let ws = shr-slice-lawful 𝓤 H A W (named 0) κ u8 .typed (d .chunk) (v ∷ []) (fields .0) .0 in let wp = LL.lawful S.the-type S′.the-laws 𝓤 H A W .typed (d .spot) _ (fields .1 .0) .0 in
-        qed W ((‵ (flft κ q) ⊛ ‵ ftrue) ∷ ‵ (owns (B (κ, tt) ∷ []) (d, tt) (mach ∷ [], tt)) ∷ []) ∵ enter ! C Λ code.function (mach ∷ []) _ $
-        alloc1 ! (λ l₀. alloc1 ! (λ l₁. alloc1 ! (λ l₂. alloc1 ! (λ l₃. alloc1 ! (λ l₄. alloc1 ! (λ l₅. alloc0 ! $ params1 ! $ pass1 ! (init ! 8 refl (LL.lawful D L 𝓤 H A W .typed d _ isd .0)) $ pass0 ! $
+        let fields = LL.owed (D κ) (L κ) d _ isd in
+        let ws = shr-slice-lawful 𝓤 H A W (named 0) κ u8 .typed (d .chunk) (slice-val (d .chunk) ∷ []) (fields .0) .0 in let wp = LL.lawful S.the-type S′.the-laws 𝓤 H A W .typed (d .spot) _ (fields .1 .0) .0 in
+        qed W (tok ∷ ‵ (owns (B (κ, tt) ∷ []) (d, tt) (mach κ d ∷ [], tt)) ∷ []) ∵ enter ! C Λ code.function (mach κ d ∷ []) _ $
+        alloc1 ! (λ l₀. alloc1 ! (λ l₁. alloc1 ! (λ l₂. alloc1 ! (λ l₃. alloc1 ! (λ l₄. alloc1 ! (λ l₅. alloc0 ! $ params1 ! $ pass1 ! (init ! 8 refl (LL.lawful (D κ) (L κ) 𝓤 H A W .typed d _ isd .0)) $ pass0 ! $
         -- [_5; …; _4; …; _3; …; _2; …; _1; …; room for _0; …; the token; what r owns]
         assigns ! (of-opd ! (load ! (from ! (fld ! refl (stop !))) (look-in ! 8 (sub ! 0 refl (whole !))))) (from ! (stop !)) (init ! 6 refl ws) $
         assigns ! (of-opd ! (load ! (from ! (fld ! refl (stop !))) (look-in ! 8 (sub ! 0 refl (whole !))))) (from ! (stop !)) (init ! 2 refl ws) $
         assigns ! (of-opd ! (load ! (from ! (fld ! refl (stop !))) (look-in ! 8 (sub ! 1 refl (whole !))))) (from ! (stop !)) (init ! 0 refl wp) $
-        move ! (12 ∷ 13 ∷ []) $ move ! (1 ∷ []) $ fsplit ! $ use1 W (‵ Own ⊛ ‵ OwnS) apart $ split ! $
+        move ! (12 ∷ 13 ∷ []) $ move ! (1 ∷ []) $ fsplit ! $ use1 W (‵ (Own κ d) ⊛ ‵ (OwnS κ (d .chunk))) (apart 𝓤 H A W κ d) $ split ! $
         -- [what r owns; what the slice owns; true; the token; _5; …]
-        move ! (1 ∷ []) $ use1 W (‵ OwnS ⊛ ‵ OwnS) (shr-slice-copy 𝓤 H A W (named 0) κ u8 .twice (d .chunk) (v ∷ [])) $ split ! $ move ! (4 ∷ 0 ∷ []) $ use2 W (raw (Advance 𝓤 H A mem run .pre to)) (asks (fields .1 .0)) $
+        move ! (1 ∷ []) $ use1 W (‵ (OwnS κ (d .chunk)) ⊛ ‵ (OwnS κ (d .chunk))) (shr-slice-copy 𝓤 H A W (named 0) κ u8 .twice (d .chunk) (slice-val (d .chunk) ∷ [])) $ split ! $ move ! (4 ∷ 0 ∷ []) $ use2 W (raw (Advance 𝓤 H A mem run .pre to)) (asks (fields .1 .0)) $
         -- [`advance`'s; what the slice owns; what r owns; true; _5; …; _4; …; _3; …; _2; …; _1; …; room for _0; …]
         calls-at ! fm (Advance 𝓤 H A mem run) known to (and-then ! (load ! (from ! (stop !)) (look ! 6 refl)) (and-then ! (load ! (from ! (stop !)) (look ! 4 refl)) (no-more !))) (λ u.
-        use1 W (later (some (λ (r : Spot). ((‵ (flft κ q) ⊛ ‵ ftrue) ⊛ ‵ (S.the-row .own r (u ∷ []))) ⊛ raw (ensured 𝓤 H A advance.ended (advance.clauses 𝓤 H A mem run) (κ, tt) (d .chunk, (d .spot, tt)) tt r)))) (id⊢ 𝓤 _) $ await ! tt $ pick ! (λ r.
-        split ! $ move ! (1 ∷ []) $ use1 W (raw (fact 𝓤 (r ≡ p′))) (advance-of 𝓤 H A mem run κ (d .chunk) (d .spot) r) $ heard ! (r ≡ p′) (λ e. split ! $ move ! (1 ∷ []) $
-        rewrite ! 0 (λ (k : Spot). ‵ (S.the-row .own k (u ∷ []))) e refl $ peeks ! S.the-row (Is S.the-row) (shows 𝓤 H A S.the-row) p′ (u ∷ []) (λ is. drop ! $
-        let ue : u ∷ [] ≡ sv p′ ∷ [] = LL.tells S.the-type S′.the-laws p′ _ is in let isp = subst (Is S.the-row p′) ue is in
+        answered ! tt S.the-row (LL.vals S.the-type S′.the-laws) (LL.tells S.the-type S′.the-laws) tok (λ r. ensured 𝓤 H A advance.ended (advance.clauses 𝓤 H A mem run) (κ, tt) (d .chunk, (d .spot, tt)) tt r) u p′ (id⊢ 𝓤 _) (advance-of 𝓤 H A mem run κ (d .chunk) (d .spot)) (λ is ue.
+        let isp = subst (Is S.the-row p′) ue is in
         land ! (from ! (stop !)) (init ! 8 refl (LL.lawful S.the-type S′.the-laws 𝓤 H A W .typed p′ _ is .0)) $ rewrite ! 8 (λ (z : Val). ‵ (fat fullShare S′.mir l₃ 0 z)) (ap only ue) refl $
         -- [the token; what the slice owns; what r owns; true; _5; …]
-        assigns ! (agg ! (and-then ! (load ! (from ! (stop !)) (look ! 10 refl)) (and-then ! (load ! (from ! (stop !)) (look ! 8 refl)) (no-more !)))) (from ! (stop !)) (init ! 14 refl (LL.lawful D L 𝓤 H A W .typed d′ _ (LL.owes D L d′ (fields .0, (isp, tt))) .0)) $
+        assigns ! (agg ! (and-then ! (load ! (from ! (stop !)) (look ! 10 refl)) (and-then ! (load ! (from ! (stop !)) (look ! 8 refl)) (no-more !)))) (from ! (stop !)) (init ! 14 refl (LL.lawful (D κ) (L κ) 𝓤 H A W .typed d′ _ (LL.owes (D κ) (L κ) d′ (fields .0, (isp, tt))) .0)) $
         returns ! (look ! 14 refl) $ forget ! 4 refl $ forget ! 6 refl $ forget ! 8 refl $ forget ! 10 refl $ forget ! 12 refl $ forget ! 14 refl $
         move ! (14 ∷ 15 ∷ []) $ free1 ! $ move ! (12 ∷ 13 ∷ []) $ free1 ! $ move ! (10 ∷ 11 ∷ []) $ free1 ! $ move ! (8 ∷ 9 ∷ []) $ free1 ! $ move ! (6 ∷ 7 ∷ []) $ free1 ! $ move ! (4 ∷ 5 ∷ []) $ free1 ! $ free0 ! $
-        keep ! (0 ∷ 2 ∷ 1 ∷ []) $ by ! (exits isp)))))))))))
+        keep ! (0 ∷ 2 ∷ 1 ∷ []) $ by ! (exits isp)))))))))
 
 module _ {M : Type 1} (𝓤 : URA M) (H : Heap 𝓤) (A : Atoms 𝓤) (W : Given 𝓤 H A) (mem : Memory → SProp 𝓤) (run : Routine → Fun 𝓤) (𝓣 : Tables 𝓤 H) (known : Triple 𝓤 (𝓣 .C #advance) (Advance 𝓤 H A mem run)) where
   next-walks : Walks 𝓤 H A next.ended stayed (WpFn 𝓤 H (𝓣 .C) (𝓣 .Λ) code.function) (next.clauses 𝓤 H A mem run)
-  next-walks = walked 𝓤 H A next.ended stayed (next.clauses 𝓤 H A mem run) (WpFn 𝓤 H (𝓣 .C) (𝓣 .Λ) code.function) (λ κs. (LL.vals (T.the-type (namedLft 1 0 tt κs)) (T′.the-laws (namedLft 1 0 tt κs)), tt)) (λ κs. (LL.tells (T.the-type (namedLft 1 0 tt κs)) (T′.the-laws (namedLft 1 0 tt κs)), tt))
+  next-walks = walked 𝓤 H A next.ended stayed (next.clauses 𝓤 H A mem run) (WpFn 𝓤 H (𝓣 .C) (𝓣 .Λ) code.function) (λ κs. (reader-vals κs, tt)) (λ κs. (reader-tells κs, tt))
       (λ κs qs bounds a g are. via 𝓤 _ (fst∗ 𝓤 _ (emp 𝓤)) (walk 𝓤 H A W mem run (κs .0) (qs .0) (a .0) (𝓣 .C) (𝓣 .Λ) (fmOf 𝓤 H (W .laws) 𝓣) known (are .0)))
 
   next-meets : Meets 𝓤 H A next.signature (WpFn 𝓤 H (𝓣 .C) (𝓣 .Λ) code.function) (next.spec 𝓤 H A mem run)
