@@ -10,15 +10,15 @@ use native.Mathlib.Omega.{arith}
 use lib.Dec.{ltb, eqb}
 use lib.IntN.{ℤ}
 use lib.ListN.{length, getD}
-use borrow.Author.Tests.{ne-eqb, ltb-true, ltb-false}
+use borrow.Author.Tests.{ne-eqb, ltb-true}
 use denote.Ref.{RefT}
 use Rattle.protocol.specs.Fields.{Field, bytesAt}
 use Rattle.protocol.specs.Refusals.{fieldCut, valueNotAdmitted, bytesLeft}
 use Rattle.protocol.specs.declared.place.Place.{Place}
 use Rattle.rules.specs.Outcome.{Outcome, got, refused, then, refuseIf, repeated}
 use Rattle.rules.specs.Reading.{headerAt, hasEntries, isChunkType, readEntry, readEntries, readData, readChunk}
-use Rattle.chunk_reader.specs.Messages.{withNext, messagesAt, messageCount, messagesOf, messages, messageOrDone, answerIn, answer, isRefused, messageIn}
-use Rattle.chunk_reader.specs.Reader.{spot, startedFrom, started, behindEntry, advanced, newReader, nextReader}
+use Rattle.chunk_reader.specs.Messages.{withNext, messagesAt, messageCount, messagesOf, messageOrDone, answerIn, answer, isRefused, messageIn}
+use Rattle.chunk_reader.specs.Reader.{spot, startedFrom, started, behindEntry, advanced}
 use Rattle.chunk_reader.specs.Run.{asked, says, Good, WellFormed, EachAnswer, EachMessage, DoneForEver, AsManyAsTheHeaderSays, RefusedForEver}
 use Rattle.chunk_reader.specs.declared.reader.ChunkReader.{ChunkReader}
 use Rattle.chunk_reader.specs.declared.spot.Found.{Found}

@@ -1,7 +1,7 @@
 -- The reader: how it begins, and what a question does to it.
 use mathlib.Core.Bool.{cond}
 use mathlib.Core.List.{List}
-use Prim.Native.Nat.{ℕ, zero, suc, _-_}
+use Prim.Native.Nat.{ℕ, _-_}
 use lib.Dec.{eqb}
 use denote.Ref.{RefT}
 use Rattle.protocol.specs.Fields.{Field}

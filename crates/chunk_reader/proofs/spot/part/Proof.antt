@@ -2,7 +2,6 @@
 use Rattle.chunk_reader.proofs.Spots.{message-part}
 use mathlib.Core.Path.{_∙_, ap}
 use Rattle.protocol.specs.Fields.{bytesAt}
-use Rattle.protocol.specs.declared.place.Place.{Place}
 use borrow.Author.Needs.{needs}
 use Rattle.chunk_reader.proofs.spot.part.Statement.{statement}
 use Rattle.chunk_reader.proofs.spot.part.Tie as tie
