@@ -3,111 +3,51 @@
 // from the paper says of the same bytes.
 use chunk_reader::Found;
 use libc::STDOUT_FILENO;
+use wire::Width;
 
-// Type 0 with three messages, of 5, 0 and 2 bytes.
-const CHUNK: [u8; 67] = [
-    0x50,
-    0,
-    0,
-    3,
-    0,
-    0,
-    0,
-    3,
-    0,
-    0,
-    1,
-    0x8d,
-    0x9e,
-    0x4f,
-    0x12,
-    0x34,
-    0,
-    0,
-    0,
-    0,
-    0,
-    0,
-    0,
-    1,
-    0,
-    0,
-    0,
-    0,
-    0,
-    0,
-    0,
-    42,
-    0xde,
-    0xad,
-    0xbe,
-    0xef,
-    0,
-    0,
-    0,
-    19,
-    0,
-    0,
-    0,
-    0,
-    0,
-    0,
-    0,
-    0,
-    0,
-    0,
-    0,
-    5,
-    0x68,
-    0x65,
-    0x6c,
-    0x6c,
-    0x6f,
-    0,
-    0,
-    0,
-    0,
-    0,
-    0,
-    0,
-    2,
-    0x68,
-    0x69,
-];
-
+// A chunk of type 0 with three messages, of 5, 0 and 2 bytes.
 fn main() {
-    asked(&CHUNK);
-    changed(1, 1);
-    changed(1, 2);
-    changed(1, 3);
-    changed(1, 0xff);
-    changed(3, 2);
-    changed(7, 4);
-    changed(39, 18);
-    changed(39, 20);
-    changed(48, 0x80);
-    changed(51, 4);
-    changed(51, 6);
-    changed(64, 1);
-    asked(&CHUNK[0..66]);
-    asked(&CHUNK[0..48]);
-    asked(&CHUNK[0..47]);
-    asked(&CHUNK[0..0]);
+    let s =
+        b"\x50\0\0\x03\0\0\0\x03\0\0\x01\x8d\x9e\x4f\x12\x34\0\0\0\0\0\0\0\x01\0\0\0\0\0\0\0\x2a\xde\xad\xbe\xef\0\0\0\x13\0\0\0\0\0\0\0\0\0\0\0\x05hello\0\0\0\0\0\0\0\x02hi";
+    asked(s);
+    changed(s, 1, 1);
+    changed(s, 1, 2);
+    changed(s, 1, 3);
+    changed(s, 1, 0xff);
+    changed(s, 3, 2);
+    changed(s, 7, 4);
+    changed(s, 39, 18);
+    changed(s, 39, 20);
+    changed(s, 48, 0x80);
+    changed(s, 51, 4);
+    changed(s, 51, 6);
+    changed(s, 64, 1);
+    cut(s, 66);
+    cut(s, 48);
+    cut(s, 47);
+    cut(s, 0);
 }
 
-fn changed(at: usize, byte: u8) {
-    let mut chunk = CHUNK;
-    if at < 67 {
-        chunk[at] = byte;
-    }
+fn changed(s: &[u8], at: usize, byte: u64) {
+    let mut chunk = [0u8; 67];
+    wire::put_bytes(&mut chunk, 0, s, 0, 67);
+    wire::put_number(&mut chunk, at, Width::One, byte);
     asked(&chunk);
+}
+
+fn cut(s: &[u8], len: usize) {
+    if len <= s.len() {
+        asked(&s[0..len]);
+    }
 }
 
 fn asked(chunk: &[u8]) {
     word(b"chunk");
-    for k in 0..5 {
-        said(chunk_reader::nth(chunk, k));
-    }
+    said(chunk_reader::nth(chunk, 0));
+    said(chunk_reader::nth(chunk, 1));
+    said(chunk_reader::nth(chunk, 2));
+    said(chunk_reader::nth(chunk, 3));
+    said(chunk_reader::nth(chunk, 4));
     word(b"\n");
 }
 
