@@ -4,7 +4,7 @@
 use mathlib.Core.Path.{_≡_, refl, sym, _∙_, ap}
 use mathlib.Core.Bool.{Bool, true, false, not, cond}
 use mathlib.Core.List.{List, [], _∷_, map}
-use Prim.Native.Nat.{ℕ, zero, suc, _+_, _-_, _≤_}
+use Prim.Native.Nat.{ℕ, zero, suc, _+_, _-_, _≤_, _<_}
 use native.Mathlib.Nat.{not-suc-le-zero, le-of-suc-le-suc}
 use native.Mathlib.Omega.{arith}
 use lib.Dec.{ltb, eqb}
@@ -12,14 +12,14 @@ use lib.IntN.{ℤ}
 use lib.ListN.{length, getD}
 use borrow.Author.Tests.{ne-eqb, ltb-true}
 use denote.Ref.{RefT}
-use Rattle.protocol.specs.Fields.{Field, bytesAt}
+use Rattle.protocol.specs.Fields.{Field, place, bytesAt}
 use Rattle.protocol.specs.Refusals.{fieldCut, valueNotAdmitted, bytesLeft}
 use Rattle.protocol.specs.declared.place.Place.{Place}
 use Rattle.rules.specs.Outcome.{Outcome, got, refused, then, refuseIf, repeated}
 use Rattle.rules.specs.Reading.{headerAt, hasEntries, isChunkType, readEntry, readEntries, readData, readChunk}
 use Rattle.chunk_reader.specs.Messages.{withNext, messagesAt, messageCount, messagesOf, messageOrDone, answerIn, answer, isRefused, messageIn}
 use Rattle.chunk_reader.specs.Reader.{spot, startedFrom, started, behindEntry, advanced}
-use Rattle.chunk_reader.specs.Run.{asked, says, Good, WellFormed, EachAnswer, EachMessage, DoneForEver, AsManyAsTheHeaderSays, RefusedForEver}
+use Rattle.chunk_reader.specs.Run.{asked, says, Good, WellFormed, EachAnswer, EachMessage, EachPart, DoneForEver, AsManyAsTheHeaderSays, RefusedForEver}
 use Rattle.chunk_reader.specs.declared.reader.ChunkReader.{ChunkReader}
 use Rattle.chunk_reader.specs.declared.spot.Found.{Found}
 use Rattle.chunk_reader.specs.declared.spot.Found.the-variants.{Ready, Message, Done, Refused}
@@ -118,7 +118,15 @@ well-formed s g n = by (readChunk s 0) g
     by (refused m p) h = absurd h
 
 pub each-message : EachMessage
-each-message c g n = ap (messageIn (c .now)) (each c n ∙ well-formed (c .now) g n) ∙ bytes (messagesOf (c .now)) n
+each-message c g n l = each c n ∙ well-formed (c .now) g n ∙ there (messagesOf (c .now)) n l
+  where
+    there : (ps : List Place) (k : ℕ) → k < length ps → messageOrDone ps k ≡ Message (getD ps k (place 0 0))
+    there [] k h = absurd (not-suc-le-zero h)
+    there (p ∷ ps) zero h = refl
+    there (p ∷ ps) (suc k) h = there ps k (le-of-suc-le-suc h)
+
+pub each-part : EachPart
+each-part c g n = ap (messageIn (c .now)) (each c n ∙ well-formed (c .now) g n) ∙ bytes (messagesOf (c .now)) n
   where
     bytes : (ps : List Place) (k : ℕ) → messageIn (c .now) (messageOrDone ps k) ≡ getD (map (bytesAt (c .now)) ps) k []
     bytes [] k = refl

@@ -32,7 +32,7 @@ messagesOf s = messagesAt (messageCount (headerAt s 0)) s 48
 abbrev pub messages : List ℕ → List (List ℕ)
 messages s = map (bytesAt s) (messagesOf s)
 
--- The message with an index, and behind the last one that there is none.
+-- The message with an index; Done behind the last one.
 abbrev pub messageOrDone : List Place → ℕ → Found
 messageOrDone [] k = Done
 messageOrDone (message ∷ more) zero = Message message
@@ -42,11 +42,11 @@ abbrev pub answerIn : Outcome (Field Place) → List Place → ℕ → Found
 answerIn (got f behind) all k = messageOrDone all k
 answerIn (refused n at) all k = Refused n
 
--- What is said of index k: the refusal, if the bytes are not one well-formed chunk; else the message, or that there is
--- none.
+-- What is said of index k: the refusal, if the bytes are not one well-formed chunk; else the message, or Done.
 unfoldable pub answer : List ℕ → ℕ → Found
 answer s k = answerIn (readChunk s 0) (messagesOf s) k
 
+-- What was found is a refusal.
 abbrev pub isRefused : Found → Bool
 isRefused Ready = false
 isRefused (Message p) = false

@@ -1,16 +1,17 @@
 -- What a reader says over its whole life. The proofs are in proofs/Runs.antt.
 use mathlib.Core.Path.{_≡_}
 use mathlib.Core.List.{List, []}
-use Prim.Native.Nat.{ℕ, zero, suc, _≤_}
+use Prim.Native.Nat.{ℕ, zero, suc, _≤_, _<_}
 use lib.ListN.{length, getD}
 use denote.Ref.{RefT}
+use Rattle.protocol.specs.Fields.{place}
 use Rattle.rules.specs.Outcome.{Outcome, got, refused}
 use Rattle.rules.specs.Reading.{headerAt, readChunk}
 use Rattle.chunk_reader.specs.Messages.{messageCount, messagesOf, messages, messageIn, answer}
 use Rattle.chunk_reader.specs.Reader.{newReader, nextReader}
 use Rattle.chunk_reader.specs.declared.reader.ChunkReader.{ChunkReader}
 use Rattle.chunk_reader.specs.declared.spot.Found.{Found}
-use Rattle.chunk_reader.specs.declared.spot.Found.the-variants.{Done, Refused}
+use Rattle.chunk_reader.specs.declared.spot.Found.the-variants.{Message, Done, Refused}
 
 -- A reader that is asked n times.
 unfoldable pub asked : ℕ → ChunkReader → ChunkReader
@@ -21,6 +22,7 @@ asked (suc n) r = asked n (nextReader r)
 abbrev pub says : RefT (List ℕ) → ℕ → Found
 says c n = asked n (newReader c) .spot .found
 
+-- Something was read.
 abbrev pub Good : {A : Type 0} → Outcome A → Type 0
 Good (got a next) = Unit
 Good (refused n at) = ⊥
@@ -29,13 +31,19 @@ Good (refused n at) = ⊥
 abbrev pub WellFormed : List ℕ → Type 0
 WellFormed s = Good (readChunk s 0)
 
--- Every question has the answer that the definition of a chunk's messages gives.
+-- Of any bytes, every question has the answer that the definition of a chunk's messages gives.
 abbrev pub EachAnswer : Type 0
 EachAnswer = (c : RefT (List ℕ)) (n : ℕ) → says c (suc n) ≡ answer (c .now) n
 
--- The messages that are handed out are the chunk's messages, in order and each once.
+-- In a well-formed chunk question n + 1 gives message n, so that each is given once and in order.
 abbrev pub EachMessage : Type 0
 EachMessage =
+    (c : RefT (List ℕ)) → WellFormed (c .now) → (n : ℕ) → n < length (messagesOf (c .now)) →
+    says c (suc n) ≡ Message (getD (messagesOf (c .now)) n (place 0 0))
+
+-- The bytes that `message` then hands out are the chunk's messages, and empty behind the last one.
+abbrev pub EachPart : Type 0
+EachPart =
     (c : RefT (List ℕ)) → WellFormed (c .now) → (n : ℕ) →
     messageIn (c .now) (says c (suc n)) ≡ getD (messages (c .now)) n []
 

@@ -1,5 +1,6 @@
-// The reader itself. It keeps the chunk's bytes and its own place; each function over it calls one of spot.rt on the
-// bytes and the place.
+// The reader itself: it keeps the chunk's bytes and its own place. Each function over it calls one of spot.rt on the bytes
+// and the place. An enum cannot hold a part of the bytes, so a question gives the reader back with the place of what it
+// found, and `message` hands out the part.
 ghost use mathlib.Core.Path.{_≡_};
 ghost use Rattle.chunk_reader.specs.Messages.{messageIn, answer};
 ghost use Rattle.chunk_reader.specs.Reader.{newReader, nextReader};
@@ -16,7 +17,8 @@ pub struct ChunkReader<'a> {
     pub spot: Spot,
 }
 
-// Made of a chunk's bytes, which are checked as the rest of a Deliver is.
+// Made of a chunk's bytes, which are checked as the rest of a Deliver is. If a check fails, the reader says its refusal,
+// now and for ever.
 pub fn new<'a>(chunk: &'a [u8]) -> ChunkReader<'a>
     ensures { λ r. ⌜ r ≡ newReader (chunk .entry) ⌝ }
 {
@@ -26,7 +28,7 @@ pub fn new<'a>(chunk: &'a [u8]) -> ChunkReader<'a>
     }
 }
 
-// Asked for the next message.
+// Asked for the next message. It gives them in order, each once, and is then done for ever (specs/Run.antt).
 pub fn next<'a>(reader: ChunkReader<'a>) -> ChunkReader<'a>
     ensures { λ r. ⌜ r ≡ nextReader (reader .entry) ⌝ }
 {

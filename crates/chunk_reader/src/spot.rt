@@ -56,7 +56,7 @@ pub fn start(s: &[u8]) -> Spot
     }
 }
 
-// The next message. A place that the host made up is read like any other: see `advanced`.
+// A question. A place that the host made up is read like any other (specs/Reader.antt, `advanced`).
 pub fn advance(s: &[u8], p: Spot) -> Spot
     ensures { λ r. ⌜ r ≡ advanced (now (s .entry)) p ⌝ }
 {
