@@ -2,7 +2,7 @@
 use mathlib.Core.Path.{_≡_, refl, _∙_, sym, ap}
 use mathlib.Core.Bool.{Bool, true, false}
 use mathlib.Core.List.{List}
-use Prim.Native.Nat.{ℕ, _+_, _-_, _≤_, _<_}
+use Prim.Native.Nat.{ℕ, suc, _+_, _-_, _^_, _≤_, _<_}
 use native.Mathlib.Omega.{arith}
 use lib.Dec.{eqb, ltb}
 use lib.ListN.{length, take, drop}
@@ -10,7 +10,7 @@ use borrow.Author.Tests.{eq-eqb, ne-eqb, lt-ltb, le-ltb}
 use Rattle.wire.specs.Integers.{bigEndian, Bytes}
 use Rattle.protocol.specs.Decision.{Decision, decide}
 use Rattle.protocol.specs.Fields.{Field, number, overPlaces, further}
-use Rattle.protocol.specs.Kinds.{u16}
+use Rattle.protocol.specs.Kinds.{unsigned, u16}
 use Rattle.protocol.specs.Refusals.{frameTooLarge, frameTooSmall}
 use Rattle.protocol.specs.declared.place.Place.{Place}
 use Rattle.rules.specs.Outcome.{mapped, got}
@@ -20,12 +20,13 @@ use Rattle.fields.specs.Cursor.{cursor, from, Reads}
 use Rattle.fields.specs.declared.cursor.Cursor.{Cursor}
 use Rattle.fields.proofs.Landing.{fresh}
 
--- A number of two bytes that are there.
-pub u16-there : (s : List ℕ) (at v : ℕ) (c d : Cursor) → Bytes s → at + 2 ≤ length s → c ≡ cursor 0 at 0 → Reads u16 s c (number v) d → v ≡ bigEndian 2 s at
+-- A number of a whole width whose bytes are there.
+pub number-read : (n most : ℕ) → 256 ^ n ≡ suc most → (s : List ℕ) (at v : ℕ) (c d : Cursor) → Bytes s → at + n ≤ length s → c ≡ cursor 0 at 0 → Reads (unsigned n most) s c (number v) d → v ≡ bigEndian n s at
 unfolding readField
-u16-there s at v c d b h i r =
-    let e : readField u16 s at ≡ got (number (bigEndian 2 s at)) (at + 2) = whole-width 2 s at 0xffff refl b ∙ ap (mapped number) (number-there 2 s at h) in
-    let f : number {P = Place} v ≡ overPlaces (further 0) (number (bigEndian 2 s at)) = rw (i, fresh (readField u16) s (cursor 0 at 0) refl, e) at (r .read) in
+number-read n most w s at v c d b h i r =
+    let k = unsigned n most in
+    let e : readField k s at ≡ got (number (bigEndian n s at)) (at + n) = whole-width n s at most w b ∙ ap (mapped number) (number-there n s at h) in
+    let f : number {P = Place} v ≡ overPlaces (further 0) (number (bigEndian n s at)) = rw (i, fresh (readField k) s (cursor 0 at 0) refl, e) at (r .read) in
     ap (λ (x : Field Place). x .number) f
 
 module _ (s : List ℕ) (limit size : ℕ) where
@@ -48,7 +49,7 @@ module _ (s : List ℕ) (limit size : ℕ) where
       unfolding readSized
       whole k v c d e f p r b i a l m n o j =
           let part : size + 4 - 8 ≡ size - 4 = omega arith in
-          rw (g, le-ltb _ _ h, le-ltb _ _ i, j, o, part, u16-there s 4 k c d b (omega (arith, h, i)) a l, u16-there s 6 v e f b (omega (arith, h, i)) m n) refl
+          rw (g, le-ltb _ _ h, le-ltb _ _ i, j, o, part, number-read 2 0xffff refl s 4 k c d b (omega (arith, h, i)) a l, number-read 2 0xffff refl s 6 v e f b (omega (arith, h, i)) m n) refl
 
 -- Four bytes are there, and Size is their number.
 pub size-there : (s : List ℕ) (limit size : ℕ) (r : Reading) → (4 ≤ length s) × (size ≡ bigEndian 4 s 0) → r ≡ readSized s limit size → r ≡ readFrame s limit

@@ -3,7 +3,7 @@
 -- its number and its place, and what is read one behind another has the first refusal. Assumes nothing.
 use mathlib.Core.Path.{_≡_, refl}
 use mathlib.Core.Bool.{Bool, true, false, not, cond}
-use mathlib.Core.List.{List, [], _∷_}
+use mathlib.Core.List.{List}
 use Prim.Native.Nat.{ℕ, zero, suc, _+_, _≤_, _<_}
 use native.Mathlib.Omega.{arith}
 use lib.Dec.{eqb, ltb, leb}
@@ -16,7 +16,7 @@ use Rattle.protocol.specs.Fields.{Field, place}
 use Rattle.protocol.specs.Kinds.{lengthWidth, Kind, unsigned, signed, string, specification, list, chunk, Row, end, _·_}
 use Rattle.protocol.specs.declared.kind.Form.{Form}
 use Rattle.protocol.specs.declared.place.Place.{Place}
-use Rattle.rules.proofs.Numbers.{number-cases}
+use Rattle.rules.proofs.Gives.{Gives, after-number}
 use Rattle.rules.specs.Outcome.{Outcome, got, refused, then, refuseIf, repeated}
 use Rattle.rules.specs.Reading.{readNumber, readUnsigned, readSigned, readBody, readString, readOffset, readTimestamp, readTyped, readSpecification, countOf, readCount, readList, headerAt, hasEntries, isChunkType, tooLong, isText, readEntry, readEntries, readData, readChunk, readField, readRow, readContent}
 
@@ -137,7 +137,7 @@ module _ (s : List ℕ) where
   bounded-entry at =
       behind 4 at _ (λ x next h i.
       check-here at (leb 0x8000_0000 x) 9 _ (λ _.
-      check-here at (ltb (length s) (next + x)) 5 _ (λ e.
+      check-here at (ltb (length s) (next + x)) 5 (got (place next x) (next + x)) (λ e.
       let l = ltb-false _ _ e in (omega (arith, h), λ k. l))))
 
   bounded-entries : (entries records at : ℕ) → at + 48 ≤ length s → Bounded at (readEntries entries records s at)
@@ -157,7 +157,7 @@ module _ (s : List ℕ) where
       check at (not (isChunkType type)) 9 (at + 1) _ (λ _ _. omega (arith, l)) (λ _.
       check at (ltb (length s) (at + 48 + len)) 5 (at + 48) _ (λ _ _. l) (λ _.
       check at (ltb (at + 48 + len) (length s)) 10 (at + 48 + len) _ (λ e _. less (ltb-true _ _ e)) (λ _.
-      choice at (hasEntries type) _ _ (bounded-entries entries records at l) (omega (arith, l), λ k. omega arith))))
+      choice at (hasEntries type) (readEntries entries records s at) (got tt (length s)) (bounded-entries entries records at l) (omega (arith, l), λ k. omega arith))))
     where
       less : {a b : ℕ} → a < b → a ≤ b
       less h = omega (arith, h)
@@ -189,7 +189,7 @@ pub bounded-content : (row : Row) (s : List ℕ) → Bounded s 0 (readContent ro
 unfolding readContent
 bounded-content row s =
     both s 0 (readRow row s 0) _ (bounded-row row s 0)
-    (λ fs last. check-here s last (ltb last (length s)) 10 _ (λ _. stay s last))
+    (λ fs last. check-here s last (ltb last (length s)) 10 (got fs last) (λ _. stay s last))
 
 pub numbered-field : (k : Kind) (s : List ℕ) (at : ℕ) → Numbered (readField k s at)
 numbered-field k s at = numbered s at (readField k s at) (bounded-field k s at)
@@ -204,17 +204,10 @@ pub numbered-entry : (s : List ℕ) (at : ℕ) → Numbered (readEntry s at)
 numbered-entry s at = numbered s at (readEntry s at) (bounded-entry s at)
 
 -- A count that is read lies within the part, wherever its reading began.
-abbrev Inside : List ℕ → Outcome ℕ → Type 0
-Inside s (got n next) = next ≤ length s
-Inside s (refused n p) = Unit
-
-inside-sign : (s : List ℕ) (at : ℕ) (z : ℤ) (next : ℕ) → next ≤ length s → Inside s (countOf at z next)
-inside-sign s at (pos n) next h = h
-inside-sign s at (negsuc k) next h = tt
-
-pub inside-count : (s : List ℕ) (at : ℕ) → Inside s (readCount s at)
+pub inside-count : (s : List ℕ) (at : ℕ) → Gives (λ _ next. next ≤ length s) (readCount s at)
 unfolding readCount
-inside-count s at =
-    number-cases 4 s at (λ o. Inside s (then o (λ x next. countOf at (two's.signed 4 x) next)))
-    (λ h. inside-sign s at (two's.signed 4 (bigEndian 4 s at)) (at + 4) h)
-    (λ h. tt)
+inside-count s at = after-number (λ _ next. next ≤ length s) 4 s at _ (λ h. by (two's.signed 4 (bigEndian 4 s at)) h)
+  where
+    by : (z : ℤ) → at + 4 ≤ length s → Gives (λ _ next. next ≤ length s) (countOf at z (at + 4))
+    by (pos n) h = h
+    by (negsuc k) h = tt

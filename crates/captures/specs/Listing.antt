@@ -1,0 +1,68 @@
+-- What the listing program prints for a capture (01 "The listing program").
+use mathlib.Core.Path.{_≡_}
+use mathlib.Core.Bool.{Bool, true, false, cond}
+use mathlib.Core.List.{List, [], _∷_, _++_}
+use Prim.Native.Nat.{ℕ, zero, suc, _+_}
+use lib.ListN.{length, drop}
+use Rattle.rules.specs.Exactness.{frameLength}
+use Rattle.rules.specs.Reading.{Reading, frame, short, refusal, readFrame}
+use Rattle.captures.specs.Text.{ascii, decimal, hex, joined}
+
+-- The frame limit of a listing.
+abbrev pub limit : ℕ
+limit = 65532
+
+-- What comes next in a capture: a frame with its total bytes, key and version; its end behind a frame; a frame that is
+-- cut, of which so many bytes are left of so many; a refusal. Of a part that more bytes may follow the answer can be
+-- that more are needed.
+pub data Next : Type 0 where
+  framed : ℕ → ℕ → ℕ → Next
+  whole : Next
+  cut : ℕ → ℕ → Next
+  refused : ℕ → Next
+  more : Next
+
+abbrev pub nextOf : Reading → Bool → ℕ → ℕ → Next
+nextOf (frame f) ended left total = framed total (f .key) (f .version)
+nextOf (short needed) ended left total = cond ended (cut left needed) more
+nextOf (refusal n at) ended left total = refused n
+
+-- What comes next where s is what is left of a capture, or where more may follow s.
+unfoldable pub following : List ℕ → Bool → Next
+following [] ended = cond ended whole more
+following (b ∷ s) ended = nextOf (readFrame (b ∷ s) limit) ended (length (b ∷ s)) (frameLength (b ∷ s))
+
+-- One line a frame: offset, total bytes, key as four lower-case hex digits, version.
+abbrev pub frameLine : ℕ → ℕ → ℕ → ℕ → List (List ℕ)
+frameLine offset total key version =
+    decimal offset ∷ ascii " " ∷ decimal total ∷ ascii " " ∷ hex key ∷ ascii " " ∷ decimal version ∷ ascii "\n" ∷ []
+
+-- The line of a frame that is cut.
+abbrev pub cutLine : ℕ → ℕ → ℕ → List (List ℕ)
+cutLine offset left needed = decimal offset ∷ ascii " CUT " ∷ decimal left ∷ ascii " of " ∷ decimal needed ∷ ascii "\n" ∷ []
+
+-- The line of any other refusal.
+abbrev pub refusedLine : ℕ → ℕ → List (List ℕ)
+refusedLine offset number = decimal offset ∷ ascii " REFUSED " ∷ decimal number ∷ ascii "\n" ∷ []
+
+-- The closing line: k frames, and how the capture ended.
+abbrev pub closingLine : ℕ → List ℕ → List (List ℕ)
+closingLine k ending = ascii "frames " ∷ decimal k ∷ ending ∷ []
+
+-- The lines from what comes next on, at an offset, behind k frames; `behind` gives the lines behind a frame of so many
+-- bytes. The listing stops at the first refusal.
+abbrev pub linesFrom : Next → ℕ → ℕ → (ℕ → List ℕ) → List ℕ
+linesFrom (framed total key version) offset k behind = joined (frameLine offset total key version) ++ behind total
+linesFrom whole offset k behind = joined (closingLine k (ascii " whole\n"))
+linesFrom (cut left needed) offset k behind = joined (cutLine offset left needed) ++ joined (closingLine k (ascii " cut\n"))
+linesFrom (refused number) offset k behind = joined (refusedLine offset number) ++ joined (closingLine k (ascii " refused\n"))
+linesFrom more offset k behind = []
+
+-- The lines of s, which is what is left of a capture. No frame is empty, so there are at most as many as bytes.
+unfoldable pub lines : ℕ → List ℕ → ℕ → ℕ → List ℕ
+lines zero s offset k = []
+lines (suc most) s offset k = linesFrom (following s true) offset k (λ total. lines most (drop total s) (offset + total) (suc k))
+
+-- All that is printed for a capture.
+unfoldable pub listing : List ℕ → List ℕ
+listing s = lines (suc (length s)) s 0 0

@@ -1,0 +1,11 @@
+// Captures: frames one after another, and their listing.
+mod line;
+mod text;
+mod window;
+
+pub use line::closing_line;
+pub use line::cut_line;
+pub use line::frame_line;
+pub use line::refused_line;
+pub use window::Next;
+pub use window::next_frame;
