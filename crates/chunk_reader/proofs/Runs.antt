@@ -1,68 +1,78 @@
 -- What a reader says over its whole life: the promises of specs/Run.antt. In a well-formed chunk every entry can be
 -- read, so each question gives the message at the head of the list that is left, and the rest of the list is left.
 -- Assumes nothing.
-use mathlib.Core.Path.{_≡_, refl, sym, _∙_, ap}
+use mathlib.Core.Path.{_≡_, refl, sym, _∙_, ap, subst}
 use mathlib.Core.Bool.{Bool, true, false, not, cond}
-use mathlib.Core.List.{List, [], _∷_, map}
+use mathlib.Core.List.{List, [], _∷_, _++_, map, append-nil}
 use Prim.Native.Nat.{ℕ, zero, suc, _+_, _-_, _≤_, _<_}
 use native.Mathlib.Nat.{not-suc-le-zero, le-of-suc-le-suc}
 use native.Mathlib.Omega.{arith}
-use lib.Dec.{ltb, eqb}
+use lib.Dec.{ltb, leb, eqb}
 use lib.IntN.{ℤ}
-use lib.ListN.{length, getD}
-use borrow.Author.Tests.{ne-eqb, ltb-true}
+use lib.ListN.{length, getD, take, drop, drop-of-length-le}
+use borrow.Author.Tests.{ne-eqb, ltb-true, ltb-false}
 use denote.Ref.{RefT}
+use Rattle.wire.specs.Integers.{Bytes, digits, bigEndian}
 use Rattle.protocol.specs.Fields.{Field, place, bytesAt}
-use Rattle.protocol.specs.Refusals.{fieldCut, valueNotAdmitted, bytesLeft}
 use Rattle.protocol.specs.declared.place.Place.{Place}
 use Rattle.rules.specs.Outcome.{Outcome, got, refused, then, refuseIf, repeated}
 use Rattle.rules.specs.Reading.{headerAt, hasEntries, isChunkType, readEntry, readEntries, readData, readChunk}
-use Rattle.chunk_reader.specs.Messages.{withNext, messagesAt, messageCount, messagesOf, messageOrDone, answerIn, answer, isRefused, messageIn}
+use Rattle.rules.proofs.Gives.{Gives, check, choice, after, after-number, weaker}
+use Rattle.rules.proofs.Parts.{Part, nothing, joined, there, number-part, length-part}
+use Rattle.chunk_reader.specs.Messages.{withNext, messagesAt, messageCount, messagesOf, messages, encodeEntries, messageOrDone, answerIn, answer, isRefused, messageIn}
 use Rattle.chunk_reader.specs.Reader.{spot, startedFrom, started, behindEntry, advanced}
-use Rattle.chunk_reader.specs.Run.{asked, says, Good, WellFormed, EachAnswer, EachMessage, EachPart, DoneForEver, AsManyAsTheHeaderSays, RefusedForEver}
+use Rattle.chunk_reader.specs.Run.{asked, says, Good, WellFormed, EachAnswer, EachMessage, EachPart, DoneForEver, AsManyAsTheHeaderSays, NothingElse, RefusedForEver}
 use Rattle.chunk_reader.specs.declared.reader.ChunkReader.{ChunkReader}
 use Rattle.chunk_reader.specs.declared.spot.Found.{Found}
 use Rattle.chunk_reader.specs.declared.spot.Found.the-variants.{Ready, Message, Done, Refused}
 use Rattle.chunk_reader.specs.declared.spot.Spot.{Spot}
 
--- A check that was passed, and what was read before something else.
-passed : {A : Type 0} (t : Bool) (n at : ℕ) (o : Outcome A) → Good (refuseIf t n at o) → Good o
-passed true n at o g = absurd g
-passed false n at o g = g
+-- What holds of everything that reading gives holds where something was read.
+given : {A X : Type 0} (o : Outcome A) → Gives (λ _ _. X) o → Good o → X
+given (got a next) h g = h
+given (refused n p) h g = absurd g
 
-before : {A B : Type 0} (o : Outcome A) (f : A → ℕ → Outcome B) → Good (then o f) → Good o
-before (got a next) f g = tt
-before (refused n at) f g = absurd g
+was-read : {A : Type 0} (o : Outcome A) → Gives (λ _ _. Good o) o
+was-read (got a next) = tt
+was-read (refused n p) = tt
+
+-- What a well-formed chunk is known to have: by its type, and for type 0 from its entries.
+module _ (s : List ℕ) (X : Type 0) where
+  abbrev Known : Unit {0} → ℕ → Type 0
+  Known _ _ = X
+
+  abbrev KnownOf : Field Place → ℕ → Type 0
+  KnownOf _ _ = X
+
+  from-data : (type : ℤ) (entries records len : ℕ) → (hasEntries type ≡ true → Gives Known (readEntries entries records s 0)) → (hasEntries type ≡ false → X) → Gives Known (readData type entries records len s 0)
+  unfolding readData
+  from-data type entries records len f g =
+      check Known (not (isChunkType type)) 10 1 _ (λ _.
+      check Known (ltb (length s) (48 + len)) 6 48 _ (λ _.
+      check Known (ltb (48 + len) (length s)) 11 (48 + len) _ (λ _.
+      choice (Gives Known) (hasEntries type) _ _ f g)))
+
+  from-chunk : (48 ≤ length s → hasEntries (headerAt s 0 .«chunk_type») ≡ true → Gives Known (readEntries (headerAt s 0 .entries) (headerAt s 0 .records) s 0)) → (hasEntries (headerAt s 0 .«chunk_type») ≡ false → X) → WellFormed s → X
+  unfolding readChunk
+  from-chunk f g w =
+      let h = headerAt s 0 in
+      given (readChunk s 0)
+      (check KnownOf (ltb (length s) 48) 6 0 _ (λ l.
+      after KnownOf Known (readData (h .«chunk_type») (h .entries) (h .records) (h .«data_length») s 0) _
+      (from-data (h .«chunk_type») (h .entries) (h .records) (h .«data_length») (f (ltb-false _ _ l)) g)
+      (λ _ _ x. x))) w
 
 -- The entries of a well-formed chunk can all be read.
-entries-good : (entries records : ℕ) (s : List ℕ) → Good (readEntries entries records s 0) → Good (repeated readEntry entries s 48)
-unfolding readEntries
-entries-good entries records s g = before (repeated readEntry entries s 48) _ (passed (not (eqb records entries)) _ _ _ g)
-
-data-good : (type : ℤ) (entries records len : ℕ) (s : List ℕ) → Good (readData type entries records len s 0) → Good (repeated readEntry (cond (hasEntries type) entries 0) s 48)
-unfolding readData repeated
-data-good type entries records len s g =
-    by (hasEntries type)
-    (passed (ltb (48 + len) (length s)) bytesLeft (48 + len) opened
-    (passed (ltb (length s) (48 + len)) fieldCut 48 not-longer
-    (passed (not (isChunkType type)) valueNotAdmitted 1 (refuseIf (ltb (length s) (48 + len)) fieldCut 48 not-longer) g)))
-  where
-    opened : Outcome Unit
-    opened = cond (hasEntries type) (readEntries entries records s 0) (got tt (length s))
-
-    not-longer : Outcome Unit
-    not-longer = refuseIf (ltb (48 + len) (length s)) bytesLeft (48 + len) opened
-
-    by : (t : Bool) → Good (cond t (readEntries entries records s 0) (got (tt {0}) (length s))) → Good (repeated readEntry (cond t entries 0) s 48)
-    by true h = entries-good entries records s h
-    by false h = tt
-
 chunk-good : (s : List ℕ) → WellFormed s → Good (repeated readEntry (messageCount (headerAt s 0)) s 48)
-unfolding readChunk
-chunk-good s g =
-    let h = headerAt s 0 in
-    data-good (h .«chunk_type») (h .entries) (h .records) (h .«data_length») s
-    (before (readData (h .«chunk_type») (h .entries) (h .records) (h .«data_length») s 0) _ (passed (ltb (length s) 48) _ _ _ g))
+unfolding readEntries repeated
+chunk-good s w =
+    let n = headerAt s 0 .entries in
+    from-chunk s (Good (repeated readEntry (messageCount (headerAt s 0)) s 48))
+    (λ _ e. rw e
+    (check (λ _ _. Good (repeated readEntry n s 48)) (not (eqb (headerAt s 0 .records) n)) 10 4 _ (λ _.
+    after (λ _ _. Good (repeated readEntry n s 48)) (λ _ _. Good (repeated readEntry n s 48)) (repeated readEntry n s 48) _ (was-read (repeated readEntry n s 48)) (λ _ last x.
+    check (λ _ _. Good (repeated readEntry n s 48)) (ltb last (length s)) 11 last _ (λ _. x)))))
+    (λ e. rw e tt) w
 
 not-zero : (n : ℕ) → suc n ≡ 0 → ⊥
 not-zero n e = omega arith
@@ -183,3 +193,52 @@ enough c k = each c _ ∙ by-outcome (readChunk (c .now) 0)
     by-outcome (got f behind) =
         let n = messageCount (headerAt (c .now) 0) in by-test n (ltb n k) refl (messages-few n (c .now) 48)
     by-outcome (refused m p) = refl
+
+-- The messages are all of the data: what an entry's reading passes over is the entry's encoding.
+module _ (s : List ℕ) (b : Bytes s) where
+  abbrev EntryPart : ℕ → Place → ℕ → Type 0
+  EntryPart at m next = Part s at (digits 4 (length (bytesAt s m)) ++ bytesAt s m) next
+
+  entry-part : (at : ℕ) → Gives (EntryPart at) (readEntry s at)
+  unfolding readEntry
+  entry-part at =
+      after-number (EntryPart at) 4 s at _ (λ h.
+      check (EntryPart at) (leb 0x8000_0000 (bigEndian 4 s at)) 10 at _ (λ _.
+      check (EntryPart at) (ltb (length s) (at + 4 + bigEndian 4 s at)) 6 at _ (λ e.
+      whole (bigEndian 4 s at) (ltb-false _ _ e) (number-part s 4 at b h))))
+    where
+      whole : (n : ℕ) → at + 4 + n ≤ length s → Part s at (digits 4 n) (at + 4) → EntryPart at (place (at + 4) n) (at + 4 + n)
+      whole n h p =
+          let g : length (take n (drop (at + 4) s)) ≡ n = length-part n (at + 4) s h in
+          rw g (joined s at (at + 4) (at + 4 + n) (digits 4 n) (take n (drop (at + 4) s)) p (there s n (at + 4) h))
+
+  abbrev EntriesPart : ℕ → ℕ → Unit {0} → ℕ → Type 0
+  EntriesPart n at _ last = Part s at (encodeEntries (map (bytesAt s) (messagesAt n s at))) last
+
+  entries-part : (n at : ℕ) → at ≤ length s → Gives (EntriesPart n at) (repeated readEntry n s at)
+  unfolding repeated messagesAt
+  entries-part zero at h = nothing s at h
+  entries-part (suc n) at h = by (readEntry s at) (entry-part at) (λ next l. entries-part n next l)
+    where
+      by : (o : Outcome Place) → Gives (EntryPart at) o → ((next : ℕ) → next ≤ length s → Gives (EntriesPart n next) (repeated readEntry n s next)) → Gives (λ _ last. Part s at (encodeEntries (map (bytesAt s) (withNext o (λ next. messagesAt n s next)))) last) (then o (λ a next. repeated readEntry n s next))
+      by (got m next) p more =
+          weaker (EntriesPart n next) _ (repeated readEntry n s next)
+          (λ _ last q. joined s at next last (digits 4 (length (bytesAt s m)) ++ bytesAt s m) _ p q) (more next (p .within))
+      by (refused k p) q more = tt
+
+pub nothing-else : NothingElse
+unfolding readEntries
+nothing-else s b w t =
+    let n = headerAt s 0 .entries in
+    let e : hasEntries (headerAt s 0 .«chunk_type») ≡ true = ap hasEntries t in
+    let k : messageCount (headerAt s 0) ≡ n = rw e in
+    from-chunk s (drop 48 s ≡ encodeEntries (messages s))
+    (λ l _. rw k
+    (check (λ _ _. Whole n) (not (eqb (headerAt s 0 .records) n)) 10 4 _ (λ _.
+    after (λ _ _. Whole n) (EntriesPart s b n 48) (repeated readEntry n s 48) _ (entries-part s b n 48 l) (λ _ last p.
+    check (λ _ _. Whole n) (ltb last (length s)) 11 last _ (λ f.
+    p .bytes ∙ ap (λ (r : List ℕ). encodeEntries (map (bytesAt s) (messagesAt n s 48)) ++ r) (drop-of-length-le s {i = last} (ltb-false _ _ f)) ∙ append-nil (encodeEntries (map (bytesAt s) (messagesAt n s 48))))))))
+    (λ f. absurd (subst (λ (z : Bool). cond z Unit ⊥) (sym e ∙ f) tt)) w
+  where
+    Whole : ℕ → Type 0
+    Whole n = drop 48 s ≡ encodeEntries (map (bytesAt s) (messagesAt n s 48))

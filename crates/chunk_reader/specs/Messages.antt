@@ -1,7 +1,9 @@
 -- The messages of a chunk (01 "Chunks"), by their places in the chunk's bytes `s`, header first.
 use mathlib.Core.Bool.{Bool, true, false, cond}
-use mathlib.Core.List.{List, [], _∷_, map}
+use mathlib.Core.List.{List, [], _∷_, _++_, map}
 use Prim.Native.Nat.{ℕ, zero, suc}
+use lib.ListN.{length}
+use Rattle.wire.specs.Integers.{digits}
 use Rattle.protocol.specs.Fields.{Field, place, bytesAt}
 use Rattle.protocol.specs.declared.chunk.ChunkHeader.{ChunkHeader}
 use Rattle.protocol.specs.declared.place.Place.{Place}
@@ -31,6 +33,11 @@ messagesOf s = messagesAt (messageCount (headerAt s 0)) s 48
 -- Their bytes.
 abbrev pub messages : List ℕ → List (List ℕ)
 messages s = map (bytesAt s) (messagesOf s)
+
+-- Messages as a chunk of type 0 has them: each behind the four bytes of its size.
+abbrev pub encodeEntries : List (List ℕ) → List ℕ
+encodeEntries [] = []
+encodeEntries (m ∷ ms) = (digits 4 (length m) ++ m) ++ encodeEntries ms
 
 -- The message with an index; Done behind the last one.
 abbrev pub messageOrDone : List Place → ℕ → Found

@@ -2,12 +2,14 @@
 use mathlib.Core.Path.{_≡_}
 use mathlib.Core.List.{List, []}
 use Prim.Native.Nat.{ℕ, zero, suc, _≤_, _<_}
-use lib.ListN.{length, getD}
+use lib.IntN.{pos}
+use lib.ListN.{length, getD, drop}
 use denote.Ref.{RefT}
+use Rattle.wire.specs.Integers.{Bytes}
 use Rattle.protocol.specs.Fields.{place}
 use Rattle.rules.specs.Outcome.{Outcome, got, refused}
 use Rattle.rules.specs.Reading.{headerAt, readChunk}
-use Rattle.chunk_reader.specs.Messages.{messageCount, messagesOf, messages, messageIn, answer}
+use Rattle.chunk_reader.specs.Messages.{messageCount, messagesOf, messages, encodeEntries, messageIn, answer}
 use Rattle.chunk_reader.specs.Reader.{newReader, nextReader}
 use Rattle.chunk_reader.specs.declared.reader.ChunkReader.{ChunkReader}
 use Rattle.chunk_reader.specs.declared.spot.Found.{Found}
@@ -54,6 +56,11 @@ DoneForEver = (c : RefT (List ℕ)) → WellFormed (c .now) → (n : ℕ) → le
 -- There are as many as the header says.
 abbrev pub AsManyAsTheHeaderSays : Type 0
 AsManyAsTheHeaderSays = (s : List ℕ) → WellFormed s → length (messagesOf s) ≡ messageCount (headerAt s 0)
+
+-- None is left out: of a chunk of type 0 they are all that stands behind the header.
+abbrev pub NothingElse : Type 0
+NothingElse =
+    (s : List ℕ) → Bytes s → WellFormed s → headerAt s 0 .«chunk_type» ≡ pos 0 → drop 48 s ≡ encodeEntries (messages s)
 
 -- Bytes that are not one well-formed chunk: the check's refusal, from the beginning and for ever.
 abbrev pub RefusedForEver : Type 0
