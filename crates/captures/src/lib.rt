@@ -1,5 +1,6 @@
 // Captures: frames one after another, and their listing.
 mod line;
+mod listing;
 mod text;
 mod window;
 
@@ -7,5 +8,8 @@ pub use line::closing_line;
 pub use line::cut_line;
 pub use line::frame_line;
 pub use line::refused_line;
+pub use listing::Progress;
+pub use listing::State;
+pub use listing::list;
 pub use window::Next;
 pub use window::next_frame;
