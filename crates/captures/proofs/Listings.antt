@@ -7,10 +7,10 @@ use mathlib.Core.Logic.{_⊎_, inl, inr}
 use Prim.Native.Nat.{ℕ, suc, _+_, _-_, _<_, _≤_}
 use native.Mathlib.Numerals.{add-one}
 use native.Mathlib.Omega.{arith}
-use lib.Dec.{ltb, leb}
-use lib.ListN.{length, drop, length-append, length-drop}
-use lib.Seq.{drop-append-le, drop-drop}
-use borrow.Author.Tests.{lt-ltb, le-ltb, ltb-true, ltb-false, leb-true, leb-false}
+use lib.Dec.{ltb, leb, eqb}
+use lib.ListN.{length, take, drop, length-append, length-drop}
+use lib.Seq.{take-all, drop-append-le, drop-drop}
+use borrow.Author.Tests.{lt-ltb, le-ltb, ltb-true, ltb-false, le-leb, lt-leb, leb-true, leb-false, eqb-true, eqb-false}
 use Rattle.wire.specs.Buffer.{Holds, holds, splice}
 use Rattle.wire.proofs.Splice.{splice-none, splice-splice, length-splice}
 use Rattle.captures.specs.Text.{ascii, decimal, joined, puts}
@@ -150,6 +150,9 @@ module _ (w : List ℕ) (ended : Bool) (p : Progress) (inside : p .from ≤ leng
         of (refused number) e g = never g (halted p (r .written) Done)
         of more e g = never g (halted p (r .written) More)
 
+    pub step-less : goesOn (r .state) ≡ true → r .from ≤ length w → length w - r .from < length w - p .from
+    step-less g l = let h = step-goes g in omega (arith, h .1, l)
+
     -- A step that can't be followed by another says why.
     pub step-stops : (len : ℕ) → goesOn (r .state) ≡ false → Stops w ended len r
     step-stops len g =
@@ -167,7 +170,7 @@ module _ (w : List ℕ) (ended : Bool) (p : Progress) (inside : p .from ≤ leng
         of more e g = e
 
 -- The same length.
-lists-length : (w : List ℕ) (ended : Bool) (p : Progress) (entry exit : List ℕ) (r : Progress) → Lists w ended p entry exit r → length exit ≡ length entry
+pub lists-length : (w : List ℕ) (ended : Bool) (p : Progress) (entry exit : List ℕ) (r : Progress) → Lists w ended p entry exit r → length exit ≡ length entry
 lists-length w ended p entry exit r l =
     let h : p .written + length (l .text) ≤ length entry = subst (λ (n : ℕ). n ≤ length entry) (l .written) (l .room) in
     rw (l .put) (length-splice entry (l .text) (p .written) h)
@@ -193,3 +196,77 @@ lists-more w ended p q r a b c l g m =
           ∙ (ap (λ (s : State). l .text ++ behind s (linesOf (drop (q .from) (w ++ rest)) (q .offset) (q .frames))) g
           ∙ (ap (λ (s : List ℕ). l .text ++ s) (m .lines rest f) ∙ sym (append-assoc (l .text) (m .text) _)))
       }
+
+pub lists-room : (w : List ℕ) (ended : Bool) (p q : Progress) (a b : List ℕ) (room : Bool) → Lists w ended p a b q → room ≡ leb (q .written + 128) (length b) → room ≡ true → q .written + 128 ≤ length b
+lists-room w ended p q a b room l e f = leb-true _ _ (sym e ∙ f)
+
+pub lists-full : (w : List ℕ) (ended : Bool) (p q : Progress) (a b : List ℕ) (room : Bool) → Lists w ended p a b q → q .state ≡ Going → room ≡ leb (q .written + 128) (length b) → room ≡ false → Stops w ended (length a) q
+lists-full w ended p q a b room l g e f =
+    let k : length b ≡ length a = lists-length w ended p a b q l in
+    let h : length b < q .written + 128 = leb-false _ _ (sym e ∙ f) in
+    subst (λ (s : State). Stopped s w ended (length a) q) (sym g) (omega (arith, k, h))
+
+-- The tests of the code.
+pub room-none : (written len : ℕ) → len < 128 → false ≡ leb (written + 128) len
+room-none written len h = sym (lt-leb (written + 128) len (omega (arith, h)))
+
+pub room-some : (written len : ℕ) (t : Bool) → 128 ≤ len → t ≡ leb written (len - 128) → t ≡ leb (written + 128) len
+room-some written len t h e = by (leb written (len - 128)) refl
+  where
+    by : (u : Bool) → leb written (len - 128) ≡ u → t ≡ leb (written + 128) len
+    by true q = let l = leb-true written (len - 128) q in e ∙ (q ∙ sym (le-leb (written + 128) len (omega (arith, l, h))))
+    by false q = let l = leb-false written (len - 128) q in e ∙ (q ∙ sym (lt-leb (written + 128) len (omega (arith, l, h))))
+
+pub offset-long : (offset frames total : ℕ) → greatest - offset < total → true ≡ tooLong offset frames total
+unfolding tooLong
+offset-long offset frames total h = rw (lt-ltb greatest (offset + total) (omega (arith, h)))
+
+pub frames-long : (offset frames total : ℕ) (t : Bool) → offset < suc greatest → frames < suc greatest → total ≤ greatest - offset → t ≡ eqb frames greatest → t ≡ tooLong offset frames total
+unfolding tooLong
+frames-long offset frames total t a b h e = rw (le-ltb greatest (offset + total) (omega (arith, a, h))) (by (eqb frames greatest) refl)
+  where
+    by : (u : Bool) → eqb frames greatest ≡ u → t ≡ ltb greatest (frames + 1)
+    by true q = let l = eqb-true frames greatest q in e ∙ (q ∙ sym (lt-ltb greatest (frames + 1) (omega (arith, l))))
+    by false q = let l = eqb-false frames greatest q in e ∙ (q ∙ sym (le-ltb greatest (frames + 1) (omega (arith, l, b))))
+
+-- A frame that is not too long.
+pub not-long : (offset frames total : ℕ) → tooLong offset frames total ≡ false → (offset + total ≤ greatest) × (frames + 1 ≤ greatest)
+unfolding tooLong
+not-long offset frames total = by (ltb greatest (offset + total)) refl
+  where
+    by : (t : Bool) → ltb greatest (offset + total) ≡ t → cond t true (ltb greatest (frames + 1)) ≡ false → (offset + total ≤ greatest) × (frames + 1 ≤ greatest)
+    by true q e = absurd (let o : _≡_ {A = ℕ} 0 1 = cc in omega arith)
+    by false q e = (ltb-false _ _ q, ltb-false _ _ e)
+
+pub steps-long : (p : Progress) (total key version : ℕ) (t : Bool) (out : List ℕ) (r : Progress) → t ≡ tooLong (p .offset) (p .frames) total → t ≡ true → r ≡ halted p (p .written) TooLong → Steps (framed total key version) p out out r
+unfolding puts
+steps-long p total key version t out r e f g =
+    let h : tooLong (p .offset) (p .frames) total ≡ true = sym e ∙ f in
+    rw g (record { text = rw h; place = rw h })
+
+pub steps-frame : (p : Progress) (total key version at : ℕ) (t : Bool) (entry exit : List ℕ) → t ≡ tooLong (p .offset) (p .frames) total → t ≡ false → holds exit at ≡ puts entry (p .written) (frameLine (p .offset) total key version) → Steps (framed total key version) p entry exit (advanced p total at)
+steps-frame p total key version at t entry exit e f g =
+    let h : tooLong (p .offset) (p .frames) total ≡ false = sym e ∙ f in
+    record { text = rw h g; place = rw h }
+
+pub steps-more : (p : Progress) (out : List ℕ) (r : Progress) → r ≡ halted p (p .written) More → Steps more p out out r
+unfolding puts
+steps-more p out r g = rw g (record { text = refl; place = refl })
+
+pub steps-next : (n m : Next) (p : Progress) (entry exit : List ℕ) (r : Progress) → n ≡ m → Steps n p entry exit r → Steps m p entry exit r
+steps-next n m p entry exit r e s = subst (λ (x : Next). Steps x p entry exit r) e s
+
+pub halted-at : (from offset frames : ℕ) (r : Progress) (at : ℕ) (exit : List ℕ) (h : Holds) (s : State) → holds exit at ≡ h → r ≡ record { from = from; offset = offset; frames = frames; written = at; state = s } → (holds exit (r .written) ≡ h) × (r ≡ record { from = from; offset = offset; frames = frames; written = r .written; state = s })
+halted-at from offset frames r at exit h s e f = rw f (e, refl)
+
+-- The window from a place on, as it is lent.
+pub window-from : (w : List ℕ) (from : ℕ) (ended : Bool) (n : Next) → n ≡ following (take (length w - from) (drop from w)) ended → n ≡ following (drop from w) ended
+window-from w from ended n e =
+    let l : length (drop from w) ≤ length w - from = rw (length-drop from w) (omega arith) in
+    rw (take-all (length w - from) (drop from w) l) at e
+
+pub frame-inside : (w : List ℕ) (from : ℕ) (ended : Bool) (total key version : ℕ) → from ≤ length w → framed total key version ≡ following (take (length w - from) (drop from w)) ended → from + total ≤ length w
+frame-inside w from ended total key version h e =
+    let a = framed-there (drop from w) ended total key version (sym (window-from w from ended (framed total key version) e)) in
+    let l : total ≤ length w - from = subst (λ (n : ℕ). total ≤ n) (length-drop from w) (a .1) in
+    omega (arith, l, h)

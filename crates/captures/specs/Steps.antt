@@ -23,7 +23,7 @@ abbrev pub greatest : ℕ
 greatest = 0xffff_ffff_ffff_ffff
 
 -- A frame whose end, or whose count, would be beyond that.
-abbrev pub tooLong : ℕ → ℕ → ℕ → Bool
+unfoldable pub tooLong : ℕ → ℕ → ℕ → Bool
 tooLong offset frames total = cond (ltb greatest (offset + total)) true (ltb greatest (frames + 1))
 
 -- At the start of a window and of a text.
