@@ -3,3 +3,4 @@ pub mod Texts
 pub mod Stays
 pub mod Followings
 pub mod Listings
+pub mod Fronts

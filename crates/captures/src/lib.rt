@@ -1,9 +1,11 @@
 // Captures: frames one after another, and their listing.
+mod front;
 mod line;
 mod listing;
 mod text;
 mod window;
 
+pub use front::to_front;
 pub use line::closing_line;
 pub use line::cut_line;
 pub use line::frame_line;
