@@ -1,6 +1,7 @@
 // Lists the frames of a capture on standard input (01 "The listing program").
 ghost use mathlib.Core.Path.{_≡_};
 ghost use lib.ListN.{length};
+
 mod input;
 mod session;
 
