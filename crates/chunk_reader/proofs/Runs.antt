@@ -63,16 +63,22 @@ module _ (s : List ℕ) (X : Type 0) where
       (λ _ _ x. x))) w
 
 -- The entries of a well-formed chunk can all be read.
+entries-good : (entries records : ℕ) (s : List ℕ) → Gives (λ _ _. Good (repeated readEntry entries s 48)) (readEntries entries records s 0)
+unfolding readEntries
+entries-good entries records s =
+    check P (not (eqb records entries)) 10 4 _ (λ _.
+    after P P (repeated readEntry entries s 48) _ (was-read (repeated readEntry entries s 48)) (λ _ last x.
+    check P (ltb last (length s)) 11 last _ (λ _. x)))
+  where
+    P : Unit {0} → ℕ → Type 0
+    P _ _ = Good (repeated readEntry entries s 48)
+
 chunk-good : (s : List ℕ) → WellFormed s → Good (repeated readEntry (messageCount (headerAt s 0)) s 48)
-unfolding readEntries repeated
+unfolding repeated
 chunk-good s w =
-    let n = headerAt s 0 .entries in
-    from-chunk s (Good (repeated readEntry (messageCount (headerAt s 0)) s 48))
-    (λ _ e. rw e
-    (check (λ _ _. Good (repeated readEntry n s 48)) (not (eqb (headerAt s 0 .records) n)) 10 4 _ (λ _.
-    after (λ _ _. Good (repeated readEntry n s 48)) (λ _ _. Good (repeated readEntry n s 48)) (repeated readEntry n s 48) _ (was-read (repeated readEntry n s 48)) (λ _ last x.
-    check (λ _ _. Good (repeated readEntry n s 48)) (ltb last (length s)) 11 last _ (λ _. x)))))
-    (λ e. rw e tt) w
+    let h = headerAt s 0 in
+    from-chunk s (Good (repeated readEntry (cond (hasEntries (h .«chunk_type»)) (h .entries) 0) s 48))
+    (λ _ e. rw e (entries-good (h .entries) (h .records) s)) (λ e. rw e tt) w
 
 not-zero : (n : ℕ) → suc n ≡ 0 → ⊥
 not-zero n e = omega arith
