@@ -13,9 +13,9 @@ use lib.ListN.{length, getD, take, drop, drop-of-length-le}
 use borrow.Author.Tests.{ne-eqb, ltb-true, ltb-false}
 use denote.Ref.{RefT}
 use Rattle.wire.specs.Integers.{Bytes, digits, bigEndian}
-use Rattle.protocol.specs.Fields.{Field, place, bytesAt}
+use Rattle.protocol.specs.Fields.{Field, place, bytesAt, outside}
 use Rattle.protocol.specs.declared.place.Place.{Place}
-use Rattle.rules.specs.Outcome.{Outcome, got, refused, then, refuseIf, repeated}
+use Rattle.rules.specs.Outcome.{Outcome, got, refused, then, repeated}
 use Rattle.rules.specs.Reading.{headerAt, hasEntries, isChunkType, readEntry, readEntries, readData, readChunk}
 use Rattle.rules.proofs.Gives.{Gives, check, choice, after, after-number, weaker}
 use Rattle.rules.proofs.Parts.{Part, nothing, joined, there, number-part, length-part}
@@ -63,16 +63,22 @@ module _ (s : List ℕ) (X : Type 0) where
       (λ _ _ x. x))) w
 
 -- The entries of a well-formed chunk can all be read.
+entries-good : (entries records : ℕ) (s : List ℕ) → Gives (λ _ _. Good (repeated readEntry entries s 48)) (readEntries entries records s 0)
+unfolding readEntries
+entries-good entries records s =
+    check P (not (eqb records entries)) 10 4 _ (λ _.
+    after P P (repeated readEntry entries s 48) _ (was-read (repeated readEntry entries s 48)) (λ _ last x.
+    check P (ltb last (length s)) 11 last _ (λ _. x)))
+  where
+    P : Unit {0} → ℕ → Type 0
+    P _ _ = Good (repeated readEntry entries s 48)
+
 chunk-good : (s : List ℕ) → WellFormed s → Good (repeated readEntry (messageCount (headerAt s 0)) s 48)
-unfolding readEntries repeated
+unfolding repeated
 chunk-good s w =
-    let n = headerAt s 0 .entries in
-    from-chunk s (Good (repeated readEntry (messageCount (headerAt s 0)) s 48))
-    (λ _ e. rw e
-    (check (λ _ _. Good (repeated readEntry n s 48)) (not (eqb (headerAt s 0 .records) n)) 10 4 _ (λ _.
-    after (λ _ _. Good (repeated readEntry n s 48)) (λ _ _. Good (repeated readEntry n s 48)) (repeated readEntry n s 48) _ (was-read (repeated readEntry n s 48)) (λ _ last x.
-    check (λ _ _. Good (repeated readEntry n s 48)) (ltb last (length s)) 11 last _ (λ _. x)))))
-    (λ e. rw e tt) w
+    let h = headerAt s 0 in
+    from-chunk s (Good (repeated readEntry (cond (hasEntries (h .«chunk_type»)) (h .entries) 0) s 48))
+    (λ _ e. rw e (entries-good (h .entries) (h .records) s)) (λ e. rw e tt) w
 
 not-zero : (n : ℕ) → suc n ≡ 0 → ⊥
 not-zero n e = omega arith
@@ -135,13 +141,39 @@ each-message c g n l = each c n ∙ well-formed (c .now) g n ∙ there (messages
     there (p ∷ ps) zero h = refl
     there (p ∷ ps) (suc k) h = there ps k (le-of-suc-le-suc h)
 
-pub each-part : EachPart
-each-part c g n = ap (messageIn (c .now)) (each c n ∙ well-formed (c .now) g n) ∙ bytes (messagesOf (c .now)) n
+-- The messages lie in the bytes: an entry is read only if its end is there.
+abbrev AllInside : List ℕ → List Place → Type 0
+AllInside s [] = Unit
+AllInside s (p ∷ ps) = (outside p s ≡ false) × AllInside s ps
+
+entry-inside : (s : List ℕ) (at : ℕ) → Gives (λ m _. outside m s ≡ false) (readEntry s at)
+unfolding readEntry
+entry-inside s at =
+    after-number In 4 s at _ (λ _.
+    check In (leb 0x8000_0000 (bigEndian 4 s at)) 10 at _ (λ _.
+    check In (ltb (length s) (at + 4 + bigEndian 4 s at)) 6 at _ (λ e. e)))
   where
-    bytes : (ps : List Place) (k : ℕ) → messageIn (c .now) (messageOrDone ps k) ≡ getD (map (bytesAt (c .now)) ps) k []
-    bytes [] k = refl
-    bytes (p ∷ ps) zero = refl
-    bytes (p ∷ ps) (suc k) = bytes ps k
+    In : Place → ℕ → Type 0
+    In m _ = outside m s ≡ false
+
+messages-inside : (n : ℕ) (s : List ℕ) (at : ℕ) → AllInside s (messagesAt n s at)
+unfolding messagesAt
+messages-inside zero s at = tt
+messages-inside (suc n) s at = by (readEntry s at) (entry-inside s at) (λ next. messages-inside n s next)
+  where
+    by : (o : Outcome Place) → Gives (λ m _. outside m s ≡ false) o → ((next : ℕ) → AllInside s (messagesAt n s next)) → AllInside s (withNext o (λ next. messagesAt n s next))
+    by (got m next) i more = (i, more next)
+    by (refused k p) i more = tt
+
+part-of : (s : List ℕ) (ps : List Place) → AllInside s ps → (k : ℕ) → messageIn s (messageOrDone ps k) ≡ getD (map (bytesAt s) ps) k []
+part-of s [] i k = refl
+part-of s (p ∷ ps) i zero = rw (i .0)
+part-of s (p ∷ ps) i (suc k) = part-of s ps (i .1) k
+
+pub each-part : EachPart
+each-part c g n =
+    ap (messageIn (c .now)) (each c n ∙ well-formed (c .now) g n)
+    ∙ part-of (c .now) (messagesOf (c .now)) (messages-inside (messageCount (headerAt (c .now) 0)) (c .now) 48) n
 
 behind-last : (ps : List Place) (n : ℕ) → length ps ≤ n → messageOrDone ps n ≡ Done
 behind-last [] n l = refl

@@ -2,21 +2,18 @@
 -- their outcomes it is, since a refusal's number is never 0. Assumes nothing.
 use mathlib.Core.Path.{_≡_, refl, sym, _∙_, ap}
 use mathlib.Core.Bool.{Bool, true, false, cond}
-use mathlib.Core.List.{List, [], _∷_}
-use Prim.Native.Nat.{ℕ, zero, suc, _+_, _-_, _<_, _≤_, _^_}
-use native.Mathlib.Nat.{not-suc-le-zero, le-of-suc-le-suc}
-use native.Mathlib.Omega.{arith}
+use mathlib.Core.List.{List, []}
+use Prim.Native.Nat.{ℕ, _-_, _<_, _^_}
 use lib.Dec.{ltb}
 use lib.IntN.{ℤ, pos, negsuc}
-use lib.ListN.{length, take, drop}
+use lib.ListN.{length}
 use lib.Signed.{mag}
-use lib.Seq.{take-all, take-nil, drop-nil}
 use mir.Facts.{toZ-ofZ}
 use mir.Syntax.{w8}
 use mir.Val.{toZ, ofZ, hbits}
 use borrow.Author.Needs.{sfits-of}
 use borrow.Author.Tests.{eq-eqb, ne-eqb}
-use Rattle.protocol.specs.Fields.{Field, place, bytesAt}
+use Rattle.protocol.specs.Fields.{Field, place}
 use Rattle.protocol.specs.Fields as F
 use Rattle.protocol.specs.Frames.{chunkField}
 use Rattle.protocol.specs.Kinds as K
@@ -24,6 +21,7 @@ use Rattle.protocol.specs.Refusals.{fieldCut}
 use Rattle.protocol.specs.declared.chunk.Chunk.{Chunk}
 use Rattle.protocol.specs.declared.chunk.ChunkHeader.{ChunkHeader}
 use Rattle.protocol.specs.declared.place.Place.{Place}
+use Rattle.rules.specs.Elements.{partAt}
 use Rattle.rules.specs.Outcome.{Outcome, got, refused, then, refuseIf}
 use Rattle.rules.specs.Reading.{headerAt, hasEntries, readData, readEntry, readChunk, readField}
 use Rattle.rules.proofs.Bounds.{Numbered, numbered-entry, numbered-field}
@@ -133,33 +131,13 @@ module _ (s : List ℕ) (p : Spot) where
           by (got q next) f e k = rw (f, e)
           by (refused n q) f e k = absurd (k (ap number (sym e) ∙ z))
 
--- The bytes of a place, cut at the end.
-drop-past : (s : List ℕ) (at : ℕ) → length s ≤ at → drop at s ≡ []
-drop-past [] at h = drop-nil at
-drop-past (x ∷ s) zero h = absurd (not-suc-le-zero h)
-drop-past (x ∷ s) (suc at) h = drop-past s at (le-of-suc-le-suc h)
+empty : (t : Bool) → cond {A = List ℕ} t [] [] ≡ []
+empty true = refl
+empty false = refl
 
-length-dropped : (s : List ℕ) (at : ℕ) → length (drop at s) ≤ length s - at
-length-dropped s zero = omega arith
-length-dropped [] (suc at) = omega arith
-length-dropped (x ∷ s) (suc at) = let h : length (drop at s) ≤ length s - at = length-dropped s at in omega (arith, h)
-
-pub part-past : (s : List ℕ) (len : ℕ) (p : Place) → length s ≤ len → length s < p .at → take (length s - len) (drop len s) ≡ bytesAt s p
-part-past s len p h g =
-    ap (take (length s - len)) (drop-past s len h) ∙ take-nil (length s - len) ∙ sym (take-nil (p .len))
-    ∙ ap (take (p .len)) (sym (drop-past s (p .at) (omega (arith, g))))
-
-pub part-over : (s : List ℕ) (p : Place) → length s - p .at < p .len → take (length s - p .at) (drop (p .at) s) ≡ bytesAt s p
-part-over s p h =
-    let l : length (drop (p .at) s) ≤ length s - p .at = length-dropped s (p .at) in
-    take-all (length s - p .at) (drop (p .at) s) l ∙ sym (take-all (p .len) (drop (p .at) s) (omega (arith, l, h)))
-
-pub part-within : (s : List ℕ) (p : Place) → take ((p .at + p .len) - p .at) (drop (p .at) s) ≡ bytesAt s p
-part-within s p =
-    let e : (p .at + p .len) - p .at ≡ p .len = omega arith in ap (λ (k : ℕ). take k (drop (p .at) s)) e
-
-pub message-part : (s : List ℕ) (f : Found) → bytesAt s (placeIn f) ≡ messageIn s f
-message-part s Ready = refl
+-- The part at the place that was found.
+pub message-part : (s : List ℕ) (f : Found) → partAt s (placeIn f) ≡ messageIn s f
+message-part s Ready = empty (ltb (length s) 0)
 message-part s (Message p) = refl
-message-part s Done = refl
-message-part s (Refused n) = refl
+message-part s Done = empty (ltb (length s) 0)
+message-part s (Refused n) = empty (ltb (length s) 0)

@@ -7,6 +7,7 @@ use Rattle.wire.specs.Integers.{digits}
 use Rattle.protocol.specs.Fields.{Field, place, bytesAt}
 use Rattle.protocol.specs.declared.chunk.ChunkHeader.{ChunkHeader}
 use Rattle.protocol.specs.declared.place.Place.{Place}
+use Rattle.rules.specs.Elements.{partAt}
 use Rattle.rules.specs.Outcome.{Outcome, got, refused}
 use Rattle.rules.specs.Reading.{headerAt, hasEntries, readEntry, readChunk}
 use Rattle.chunk_reader.specs.declared.spot.Found.{Found}
@@ -67,9 +68,9 @@ placeIn (Message p) = p
 placeIn Done = place 0 0
 placeIn (Refused n) = place 0 0
 
--- The bytes of the message; empty where none is found.
+-- The bytes of the message; empty where none is found, or where a place that the host made up reaches outside.
 abbrev pub messageIn : List ℕ → Found → List ℕ
 messageIn s Ready = []
-messageIn s (Message p) = bytesAt s p
+messageIn s (Message p) = partAt s p
 messageIn s Done = []
 messageIn s (Refused n) = []

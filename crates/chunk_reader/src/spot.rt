@@ -2,7 +2,6 @@
 ghost use mathlib.Core.Path.{_≡_};
 ghost use mathlib.Core.Bool.{cond};
 ghost use lib.Dec.{ltb};
-ghost use Rattle.protocol.specs.Fields.{bytesAt};
 ghost use Rattle.rules.specs.Reading.{hasEntries};
 ghost use Rattle.chunk_reader.specs.Messages.{isRefused, placeIn, messageIn};
 ghost use Rattle.chunk_reader.specs.Reader.{started, advanced};
@@ -92,13 +91,13 @@ pub fn advance(s: &[u8], p: Spot) -> Spot
     }
 }
 
-// The message that was found, as a part of the chunk's bytes; empty if there is none. A place that the host made up is
-// cut at the chunk's end.
+// The message that was found, as a part of the chunk's bytes; empty if there is none, or if its place reaches outside,
+// which only one that the host made up can do.
 pub fn part<'a>(s: &'a [u8], p: Spot) -> &'a [u8]
     ensures { λ m. ⌜ now m ≡ messageIn (now (s .entry)) (p .found) ⌝ }
 {
     let found = p.found;
-    part_at(s, place_in(found))
+    elements::part(s, place_in(found))
 }
 
 // Types 1 and 2 stay unopened.
@@ -141,20 +140,4 @@ fn place_in(found: Found) -> Place
         Found::Done => Place { at: 0, len: 0 },
         Found::Refused(_) => Place { at: 0, len: 0 },
     }
-}
-
-fn part_at<'a>(s: &'a [u8], place: Place) -> &'a [u8]
-    ensures { λ m. ⌜ now m ≡ bytesAt (now (s .entry)) place ⌝ }
-{
-    let len = s.len();
-    let at = place.at;
-    let n = place.len;
-    if len < at {
-        return &s[len..];
-    }
-    if len - at < n {
-        return &s[at..];
-    }
-    let end = at + n;
-    &s[at..end]
 }
