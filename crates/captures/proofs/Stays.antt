@@ -1,4 +1,5 @@
--- Reading with more bytes behind: `answer-stays`. Assumes nothing.
+-- Reading with more bytes behind gives the same answer, unless more were needed. Assumes nothing.
+use mathlib.Core.Path.{_≡_, refl, sym, _∙_, ap}
 use mathlib.Core.Bool.{Bool, true, false, cond}
 use mathlib.Core.List.{List, _++_}
 use mathlib.Core.Logic.{_⊎_, inl, inr}
