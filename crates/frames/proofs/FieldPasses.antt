@@ -4,12 +4,12 @@ use mathlib.Core.Path.{_≡_, refl, _∙_, sym, ap}
 use mathlib.Core.Bool.{Bool, true, false, cond, not, _&&_, _||_}
 use mathlib.Core.List.{List, [], _∷_, _++_}
 use mathlib.Core.Option.{Option, none, some}
-use Prim.Native.Nat.{ℕ, suc, _+_, _-_, _/_, _^_, _<_, _≤_}
+use Prim.Native.Nat.{ℕ, suc, _+_, _-_, _/_, _^_, _≤_}
 use native.Mathlib.Omega.{arith}
 use lib.Dec.{eqb, ltb, leb}
 use lib.ListN.{length, length-append}
 use borrow.Author.Tests.{ltb-false}
-use Rattle.wire.specs.Buffer.{Holds, holds, splice, put, copied}
+use Rattle.wire.specs.Buffer.{Holds, holds, splice}
 use Rattle.wire.specs.Integers.{digits}
 use Rattle.wire.specs.Signed as two's
 use Rattle.wire.proofs.Splice.{length-splice, splice-splice, put-fits, copied-there}
@@ -24,7 +24,7 @@ use Rattle.rules.proofs.Bounds.{Numbered, numbered-repeated, numbered-row, numb
 use Rattle.rules.specs.Grammar.{encodeHeader}
 use Rattle.rules.specs.Outcome.{Outcome, got, refused, repeated}
 use Rattle.rules.specs.Reading.{tooLong, isText, isChunkType, hasEntries, readEntry, readRow}
-use Rattle.rules.specs.Writing.{Encoding, wrote, refuse, checked, followed, outside, fitsSigned, fitsHeader, usedUp, placeOf, writeString, writeOffset, writeList, writeChunk, writeField, writeRow}
+use Rattle.rules.specs.Writing.{Encoding, wrote, checked, outside, fitsSigned, fitsHeader, usedUp, placeOf, writeString, writeOffset, writeList, writeChunk, writeField, writeRow}
 use Rattle.fields.specs.Writer.{behind, copiedBehind, putString, putOffset, putHeader, putField, stepField, stepRow}
 use Rattle.frames.proofs.Passes.{Lawful, bytesOf, not-wrote, Numbers, Puts, nothing, both, one}
 

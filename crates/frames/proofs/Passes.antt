@@ -2,32 +2,18 @@
 -- bytes or takes its refusal and leaves the output as it is, and putting an encoding that has room puts exactly its
 -- bytes. Two steps that have this have it together. Assumes nothing.
 use mathlib.Core.Path.{_≡_, refl, _∙_, sym, ap, subst}
-use mathlib.Core.Bool.{Bool, true, false, cond, not, _&&_, _||_, false≢true}
-use mathlib.Core.List.{List, [], _∷_, _++_, append-assoc}
-use mathlib.Core.Option.{Option, none, some}
-use Prim.Native.Nat.{ℕ, zero, suc, _+_, _-_, _/_, _^_, _<_, _≤_}
+use mathlib.Core.Bool.{Bool, true, false, cond, false≢true}
+use mathlib.Core.List.{List, [], _++_}
+use Prim.Native.Nat.{ℕ, _+_, _<_, _≤_}
 use native.Mathlib.Omega.{arith}
-use lib.Dec.{eqb, ltb, leb}
-use lib.IntN.{ℤ, pos, negsuc}
+use lib.Dec.{ltb}
 use lib.ListN.{length, length-append}
-use borrow.Author.Tests.{eq-eqb, ne-eqb, lt-ltb, le-ltb, ltb-true, ltb-false}
-use Rattle.wire.specs.Buffer.{Holds, holds, splice, put, copied}
-use Rattle.wire.specs.Integers.{digits}
-use Rattle.wire.specs.Signed as two's
-use Rattle.wire.proofs.Splice.{splice-none, length-splice, splice-splice, put-fits, copied-there}
-use Rattle.protocol.specs.Fields.{Field, bytesAt}
-use Rattle.protocol.specs.Kinds.{lengthWidth, Kind, unsigned, signed, string, specification, list, chunk, Row, end, _·_}
-use Rattle.protocol.specs.declared.chunk.ChunkHeader.{ChunkHeader}
-use Rattle.protocol.specs.declared.kind.Form.{Form}
-use Rattle.protocol.specs.declared.offset.OffsetSpecification.{OffsetSpecification}
-use Rattle.protocol.specs.declared.offset.OffsetSpecification.the-variants.{None, First, Last, Next, Offset, Timestamp}
-use Rattle.protocol.specs.declared.place.Place.{Place}
-use Rattle.rules.proofs.Bounds.{Numbered, numbered-repeated, numbered-row, numbered-entry}
-use Rattle.rules.specs.Grammar.{encodeHeader}
-use Rattle.rules.specs.Outcome.{Outcome, got, refused, repeated}
-use Rattle.rules.specs.Reading.{tooLong, isText, isChunkType, hasEntries, readEntry, readRow}
-use Rattle.rules.specs.Writing.{Encoding, wrote, refuse, checked, followed, outside, fitsSigned, fitsHeader, usedUp, placeOf, writeString, writeOffset, writeList, writeChunk, writeField, writeRow}
-use Rattle.fields.specs.Writer.{writer, bound, capped, State, state, measured, behind, copiedBehind, step, putString, putOffset, putHeader, putField, stepField, stepRow}
+use borrow.Author.Tests.{lt-ltb, ltb-true, ltb-false}
+use Rattle.wire.specs.Buffer.{Holds, holds, splice}
+use Rattle.wire.proofs.Splice.{splice-none, length-splice, splice-splice}
+use Rattle.rules.specs.Outcome.{refused}
+use Rattle.rules.specs.Writing.{Encoding, wrote, refuse, followed}
+use Rattle.fields.specs.Writer.{writer, bound, capped, State, state, measured, step}
 use Rattle.fields.specs.declared.writer.Writer.{Writer}
 use Rattle.fields.proofs.Steps.{stays}
 

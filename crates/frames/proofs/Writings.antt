@@ -1,26 +1,26 @@
 -- A frame is written as the definition says: the first pass tells the encoding's refusal or its length, up to a bound
 -- above any Size; and the second pass, which has room, puts the encoding behind Size. Assumes nothing.
 use mathlib.Core.Path.{_≡_, refl, _∙_, sym, ap, subst}
-use mathlib.Core.Bool.{Bool, true, false, cond, _||_}
+use mathlib.Core.Bool.{Bool, true, false, cond}
 use mathlib.Core.List.{List, [], _∷_, _++_, append-assoc}
 use Prim.Native.Nat.{ℕ, _+_, _<_, _≤_}
 use native.Mathlib.Omega.{arith}
 use lib.Dec.{ltb}
 use lib.ListN.{length, length-append}
-use borrow.Author.Tests.{lt-ltb, le-ltb, ltb-true, ltb-false}
+use borrow.Author.Tests.{lt-ltb, le-ltb, ltb-true}
 use Rattle.wire.specs.Buffer.{Holds, holds, splice, put}
 use Rattle.wire.specs.Integers.{digits}
 use Rattle.wire.proofs.Splice.{length-splice, splice-splice, put-fits}
 use Rattle.wire.proofs.Widths.{integers}
 use Rattle.protocol.specs.Decision.{layout, decide}
-use Rattle.protocol.specs.Fields.{Field, Fields}
+use Rattle.protocol.specs.Fields.{Fields}
 use Rattle.protocol.specs.Refusals.{frameTooLarge, noRoom}
 use Rattle.protocol.specs.Table.{rowOf}
 use Rattle.protocol.specs.declared.place.Place.{Place}
 use Rattle.rules.specs.Reading.{overLimit}
-use Rattle.rules.specs.Writing.{Encoding, wrote, refuse, followed, writeRow, Writing, unwritten, writeEncoded, writeFrame}
+use Rattle.rules.specs.Writing.{Encoding, wrote, refuse, followed, writeRow, unwritten, writeEncoded, writeFrame}
 use Rattle.rules.specs.Writing as rules
-use Rattle.fields.specs.Writer.{writer, bound, capped, State, state, behind, stepRow}
+use Rattle.fields.specs.Writer.{writer, bound, capped, State, state, behind}
 use Rattle.fields.specs.declared.writer.Writer.{Writer}
 use Rattle.layouts.specs.Content.{stepHead, stepLayout}
 use Rattle.frames.specs.Written.{stepFrame}

@@ -513,5 +513,8 @@ fn behind_size(frame: Frame, src: &[u8], out: &mut [u8], w: Writer) -> Writer
 fn flag(t: bool) -> u64
     ensures { λ r. ⌜ r ≡ cond t 1 0 ⌝ }
 {
-    if t { 1 } else { 0 }
+    if t {
+        return 1;
+    }
+    0
 }

@@ -62,9 +62,16 @@ fn compared(s: &[u8], out: &[u8], len: usize) -> usize
         }
         i += 1;
     }
-    match frames::read(&out[..len], 0) {
-        Reading::Frame(_) => len,
-        Reading::Short { .. } => 0,
-        Reading::Refused { .. } => 0,
+    if is_frame(&out[0..len]) {
+        return len;
+    }
+    0
+}
+
+fn is_frame(s: &[u8]) -> bool {
+    match frames::read(s, 0) {
+        Reading::Frame(_) => true,
+        Reading::Short { .. } => false,
+        Reading::Refused { .. } => false,
     }
 }
