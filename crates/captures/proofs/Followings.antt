@@ -17,7 +17,7 @@ use Rattle.rules.specs.Exactness.{frameLength}
 use Rattle.rules.specs.Reading.{Reading, frame, short, refusal, readFrame}
 use Rattle.captures.specs.Text.{joined}
 use Rattle.captures.specs.Listing.{limit, Next, framed, whole, cut, refused, more, nextOf, following, WindowTells, frameLine, linesFrom, lines, linesOf, LinesUnfold}
-use Rattle.captures.proofs.Stays.{answer-stays}
+use Rattle.rules.proofs.Beyond.{answer-stays}
 
 pub nothing-left : (s : List ℕ) (ended t : Bool) → length s ≡ 0 → ended ≡ t → cond t whole more ≡ following s ended
 unfolding following
