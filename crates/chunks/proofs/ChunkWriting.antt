@@ -2,15 +2,13 @@
 use mathlib.Core.Path.{_≡_, refl, _∙_, sym, ap}
 use mathlib.Core.Bool.{Bool, true, false, not, _&&_}
 use mathlib.Core.List.{List, [], _++_}
-use Prim.Native.Nat.{ℕ, _+_, _-_, _/_, _^_, _<_, _≤_}
-use native.Mathlib.Omega.{arith}
+use Prim.Native.Nat.{ℕ, _+_, _-_, _^_, _<_, _≤_}
 use lib.Dec.{eqb, ltb}
 use lib.IntN.{ℤ, pos, negsuc}
 use lib.ListN.{length, take, drop, length-append}
-use lib.Signed.{mag}
 use borrow.Author.Tests.{eq-eqb, ne-eqb, lt-ltb, le-ltb, ltb-false}
-use mir.Val.{SFits, hbits}
-use mir.Syntax.{Width, w8, w32, w64}
+use mir.Val.{SFits}
+use mir.Syntax.{w8, w32, w64}
 use Rattle.wire.specs.Buffer.{holds}
 use Rattle.wire.specs.Integers.{digits}
 use Rattle.wire.specs.Signed as two's
@@ -24,7 +22,7 @@ use Rattle.protocol.specs.declared.place.Place.{Place}
 use Rattle.rules.specs.Grammar.{encodeHeader}
 use Rattle.rules.specs.Outcome.{repeated}
 use Rattle.rules.specs.Reading.{isChunkType, hasEntries, readEntry}
-use Rattle.rules.specs.Writing.{Encoding, wrote, refuse, checked, outside, fitsSigned, fitsHeader, usedUp, writeChunk}
+use Rattle.rules.specs.Writing.{Encoding, wrote, refuse, checked, outside, fitsHeader, usedUp, writeChunk}
 use Rattle.rules.proofs.Bounds.{numbered-entry}
 use Rattle.fields.specs.Cursor.{cursor}
 use Rattle.fields.specs.Writer.{behind}

@@ -1,17 +1,15 @@
 -- Where the checks of a field that is written end: with a refusal, or with its bytes. Assumes nothing.
-use mathlib.Core.Path.{_≡_, refl, _∙_, sym, ap}
-use mathlib.Core.Bool.{Bool, true, false, not}
+use mathlib.Core.Path.{_≡_, _∙_, ap}
+use mathlib.Core.Bool.{Bool, true, false}
 use mathlib.Core.List.{List, [], _++_}
-use mathlib.Core.Option.{none, some}
+use mathlib.Core.Option.{some}
 use Prim.Native.Nat.{ℕ, _+_, _-_, _/_, _^_, _<_, _≤_}
 use native.Mathlib.Omega.{arith}
-use lib.Dec.{ltb, leb, lit≤}
+use lib.Dec.{lit≤}
 use lib.IntN.{ℤ, pos, negsuc}
-use lib.ListN.{length, take, drop, length-append}
+use lib.ListN.{take, drop}
 use borrow.Author.Tests.{lt-ltb, le-ltb, lt-leb, le-leb, ltb-false}
 use Rattle.wire.specs.Integers.{digits}
-use Rattle.wire.proofs.Widths.{integers}
-use Rattle.wire.proofs.Splice.{part-length}
 use Rattle.protocol.specs.Fields.{bytesAt}
 use Rattle.protocol.specs.Fields as F
 use Rattle.protocol.specs.Kinds.{Row, lengthWidth, specification}
@@ -19,10 +17,10 @@ use Rattle.protocol.specs.Refusals.{fieldCut, badLength, notUtf8, referenceTooL
 use Rattle.protocol.specs.declared.kind.Form.{Form}
 use Rattle.protocol.specs.declared.kind.Form.the-variants.{Text, Reference, Bytes}
 use Rattle.protocol.specs.declared.place.Place.{Place}
-use Rattle.rules.specs.Outcome.{Outcome, got, refused, repeated}
+use Rattle.rules.specs.Outcome.{refused}
 use Rattle.rules.specs.Reading.{tooLong, isText, readRow}
 use Rattle.protocol.specs.declared.offset.OffsetSpecification.the-variants.{None, Offset, Timestamp}
-use Rattle.rules.specs.Writing.{Encoding, wrote, refuse, outside, fitsSigned, usedUp, writeUnsigned, writeString, writeOffset, writeList}
+use Rattle.rules.specs.Writing.{wrote, refuse, outside, fitsSigned, writeUnsigned, writeString, writeOffset, writeList}
 use Rattle.wire.specs.Signed as two's
 use Rattle.rules.proofs.Bounds.{numbered-row}
 use Rattle.fields.specs.Cursor.{cursor}

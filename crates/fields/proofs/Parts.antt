@@ -15,8 +15,8 @@ use Rattle.protocol.specs.Refusals.{bytesLeft}
 use Rattle.protocol.specs.declared.place.Place.{Place}
 use Rattle.rules.proofs.Bounds.{Numbered, numbered-repeated}
 use Rattle.rules.specs.Outcome.{Outcome, got, refused, repeated}
-use Rattle.rules.specs.Writing.{Encoding, wrote, refuse, outside, usedUp}
-use Rattle.fields.specs.Cursor.{cursor, from, landed}
+use Rattle.rules.specs.Writing.{Encoding, refuse, outside, usedUp}
+use Rattle.fields.specs.Cursor.{cursor, landed}
 use Rattle.fields.specs.declared.cursor.Cursor.{Cursor}
 use Rattle.fields.proofs.Landing.{fresh}
 use Rattle.fields.proofs.Loops.{ends}

@@ -1,26 +1,12 @@
 -- Key and version of every case of the typed frame are listed: the decision computes. Assumes nothing.
-use mathlib.Core.Bool.{Bool, false, _&&_}
-use mathlib.Core.Path.{_≡_, ap₂}
-use Prim.Native.Nat.{ℕ}
-use lib.Dec.{T, eqb, eqb→eq}
-use Rattle.protocol.specs.Decision.{Decision, layout, unlistedKey, unlistedVersion, versionsIn, ofVersion, decide}
-use Rattle.protocol.proofs.Unlisted.{both}
+use mathlib.Core.Path.{_≡_}
+use lib.Dec.{T}
+use Rattle.protocol.specs.Decision.{layout, versionsIn, ofVersion, decide}
+use Rattle.protocol.proofs.Counted.{isLayout, is-layout}
 use Rattle.protocol.specs.Frames.{fieldsOf}
 use Rattle.protocol.specs.Table.{table}
 use Rattle.protocol.specs.declared.frame.Frame.{Frame}
 use Rattle.protocol.specs.declared.frame.Frame.the-variants.{DeclarePublisher, Publish, PublishV2, PublishConfirm, PublishError, QueryPublisher, DeletePublisher, Subscribe, Deliver, DeliverV2, Credit, StoreOffset, QueryOffset, Unsubscribe, Create, Delete, Metadata, MetadataUpdate, PeerProperties, SaslHandshake, SaslAuthenticate, Tune, Open, Close, Heartbeat, Route, Partitions, ConsumerUpdate, ExchangeCommandVersions, StreamStats, CreateSuperStream, DeleteSuperStream, DeclarePublisherResponse, QueryPublisherResponse, DeletePublisherResponse, SubscribeResponse, CreditResponse, QueryOffsetResponse, UnsubscribeResponse, CreateResponse, DeleteResponse, MetadataResponse, PeerPropertiesResponse, SaslHandshakeResponse, SaslAuthenticateResponse, TuneResponse, OpenResponse, CloseResponse, RouteResponse, PartitionsResponse, ConsumerUpdateResponse, ExchangeCommandVersionsResponse, StreamStatsResponse, CreateSuperStreamResponse, DeleteSuperStreamResponse}
-
-abbrev isLayout : Decision → ℕ → ℕ → Bool
-isLayout (layout a b) k v = eqb a k && eqb b v
-isLayout unlistedKey k v = false
-isLayout unlistedVersion k v = false
-
-is-layout : (d : Decision) (k v : ℕ) → T (isLayout d k v) → d ≡ layout k v
-is-layout (layout a b) k v t =
-    let p = both (eqb a k) (eqb b v) t in
-    ap₂ layout (eqb→eq a k (p .0)) (eqb→eq b v (p .1))
-is-layout unlistedKey k v t = absurd t
-is-layout unlistedVersion k v t = absurd t
 
 tested : (f : Frame) → T (isLayout (decide (fieldsOf f .key) (fieldsOf f .version)) (fieldsOf f .key) (fieldsOf f .version))
 unfolding decide versionsIn ofVersion table

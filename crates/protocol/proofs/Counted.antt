@@ -23,12 +23,12 @@ at-each f (j ∷ ks) h k e = by (eqb k j) refl e (at-each f ks (both (f j) (all 
     by true i e later = rw (eqb-true k j i) (both (f j) (all f ks) h .0)
     by false i e later = later e
 
-abbrev isLayout : Decision → ℕ → ℕ → Bool
+abbrev pub isLayout : Decision → ℕ → ℕ → Bool
 isLayout (layout a b) k v = eqb a k && eqb b v
 isLayout unlistedKey k v = false
 isLayout unlistedVersion k v = false
 
-is-layout : (d : Decision) (k v : ℕ) → T (isLayout d k v) → d ≡ layout k v
+pub is-layout : (d : Decision) (k v : ℕ) → T (isLayout d k v) → d ≡ layout k v
 is-layout (layout a b) k v t =
     let p = both (eqb a k) (eqb b v) t in
     ap₂ layout (eqb→eq a k (p .0)) (eqb→eq b v (p .1))

@@ -1,6 +1,6 @@
 -- Each return is one check of the definition; the last two are the bytes that are counted.
 use mathlib.Core.Path.{_∙_, sym}
-use borrow.Author.Tests.{not-true, not-false, ltb-false}
+use borrow.Author.Tests.{not-true, not-false}
 use native.Mathlib.Omega.{arith}
 use Rattle.fields.proofs.Parts.{ends-inside}
 use Rattle.fields.proofs.Steps.{refused-with, counted}

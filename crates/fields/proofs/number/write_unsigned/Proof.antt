@@ -1,5 +1,4 @@
 -- By the writer, and by whether the number is admitted.
-use mathlib.Core.Path.{_∙_, sym, ap}
 use Rattle.wire.proofs.Widths.{integers}
 use Rattle.fields.proofs.Steps.{stays, put-there, measured-there, refused-with, counted}
 use Rattle.fields.proofs.Encodings.{too-wide, fits}

@@ -1,5 +1,4 @@
 -- By the writer, and by whether it is admitted.
-use mathlib.Core.Path.{refl}
 use Rattle.rules.specs.Writing.{writeOffset}
 use Rattle.fields.proofs.Encodings.{none-not-admitted}
 use Rattle.fields.proofs.Steps.{stays, unmeasured, measured-there, refused-with}
