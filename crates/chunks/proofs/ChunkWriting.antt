@@ -15,14 +15,14 @@ use Rattle.wire.specs.Signed as two's
 use Rattle.wire.proofs.Splice.{part-length}
 use Rattle.wire.proofs.TwosComplement.{twos-complement}
 use Rattle.wire.proofs.Widths.{integers}
-use Rattle.protocol.specs.Fields.{bytesAt}
+use Rattle.protocol.specs.Fields.{bytesAt, outside}
 use Rattle.protocol.specs.Refusals.{fieldCut, valueNotAdmitted, bytesLeft}
 use Rattle.protocol.specs.declared.chunk.ChunkHeader.{ChunkHeader}
 use Rattle.protocol.specs.declared.place.Place.{Place}
 use Rattle.rules.specs.Grammar.{encodeHeader}
 use Rattle.rules.specs.Outcome.{repeated}
 use Rattle.rules.specs.Reading.{isChunkType, hasEntries, readEntry}
-use Rattle.rules.specs.Writing.{Encoding, wrote, refuse, checked, outside, fitsHeader, usedUp, writeChunk}
+use Rattle.rules.specs.Writing.{Encoding, wrote, refuse, checked, fitsHeader, usedUp, writeChunk}
 use Rattle.rules.proofs.Bounds.{numbered-entry}
 use Rattle.fields.specs.Cursor.{cursor}
 use Rattle.fields.specs.Writer.{behind}

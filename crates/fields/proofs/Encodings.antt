@@ -10,7 +10,7 @@ use lib.IntN.{ℤ, pos, negsuc}
 use lib.ListN.{take, drop}
 use borrow.Author.Tests.{lt-ltb, le-ltb, lt-leb, le-leb, ltb-false}
 use Rattle.wire.specs.Integers.{digits}
-use Rattle.protocol.specs.Fields.{bytesAt}
+use Rattle.protocol.specs.Fields.{bytesAt, outside}
 use Rattle.protocol.specs.Fields as F
 use Rattle.protocol.specs.Kinds.{Row, lengthWidth, specification}
 use Rattle.protocol.specs.Refusals.{fieldCut, badLength, notUtf8, referenceTooLong, valueNotAdmitted, bytesLeft}
@@ -20,7 +20,7 @@ use Rattle.protocol.specs.declared.place.Place.{Place}
 use Rattle.rules.specs.Outcome.{refused}
 use Rattle.rules.specs.Reading.{tooLong, isText, readRow}
 use Rattle.protocol.specs.declared.offset.OffsetSpecification.the-variants.{None, Offset, Timestamp}
-use Rattle.rules.specs.Writing.{wrote, refuse, outside, fitsSigned, writeUnsigned, writeString, writeOffset, writeList}
+use Rattle.rules.specs.Writing.{wrote, refuse, fitsSigned, writeUnsigned, writeString, writeOffset, writeList}
 use Rattle.wire.specs.Signed as two's
 use Rattle.rules.proofs.Bounds.{numbered-row}
 use Rattle.fields.specs.Cursor.{cursor}

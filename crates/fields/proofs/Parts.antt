@@ -10,12 +10,12 @@ use borrow.Author.Tests.{lt-ltb, le-ltb, ltb-true, ltb-false}
 use Rattle.wire.specs.Integers.{digits}
 use Rattle.wire.proofs.Splice.{part-length}
 use Rattle.wire.proofs.Widths.{integers}
-use Rattle.protocol.specs.Fields.{bytesAt}
+use Rattle.protocol.specs.Fields.{bytesAt, outside}
 use Rattle.protocol.specs.Refusals.{bytesLeft}
 use Rattle.protocol.specs.declared.place.Place.{Place}
 use Rattle.rules.proofs.Bounds.{Numbered, numbered-repeated}
 use Rattle.rules.specs.Outcome.{Outcome, got, refused, repeated}
-use Rattle.rules.specs.Writing.{Encoding, refuse, outside, usedUp}
+use Rattle.rules.specs.Writing.{Encoding, refuse, usedUp}
 use Rattle.fields.specs.Cursor.{cursor, landed}
 use Rattle.fields.specs.declared.cursor.Cursor.{Cursor}
 use Rattle.fields.proofs.Landing.{fresh}

@@ -1,6 +1,6 @@
 // The lent source in which a frame's places are.
 ghost use mathlib.Core.Path.{_≡_};
-ghost use Rattle.rules.specs.Writing.{outside};
+ghost use Rattle.protocol.specs.Fields.{outside};
 use protocol::Place;
 
 // Whether a place reaches outside the source.

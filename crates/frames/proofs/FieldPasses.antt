@@ -13,7 +13,7 @@ use Rattle.wire.specs.Buffer.{Holds, holds, splice}
 use Rattle.wire.specs.Integers.{digits}
 use Rattle.wire.specs.Signed as two's
 use Rattle.wire.proofs.Splice.{length-splice, splice-splice, put-fits, copied-there}
-use Rattle.protocol.specs.Fields.{Field, bytesAt}
+use Rattle.protocol.specs.Fields.{Field, bytesAt, outside}
 use Rattle.protocol.specs.Kinds.{lengthWidth, Kind, unsigned, signed, string, specification, list, chunk, Row, end, _·_}
 use Rattle.protocol.specs.declared.chunk.ChunkHeader.{ChunkHeader}
 use Rattle.protocol.specs.declared.kind.Form.{Form}
@@ -24,7 +24,7 @@ use Rattle.rules.proofs.Bounds.{Numbered, numbered-repeated, numbered-row, numb
 use Rattle.rules.specs.Grammar.{encodeHeader}
 use Rattle.rules.specs.Outcome.{Outcome, got, refused, repeated}
 use Rattle.rules.specs.Reading.{tooLong, isText, isChunkType, hasEntries, readEntry, readRow}
-use Rattle.rules.specs.Writing.{Encoding, wrote, checked, outside, fitsSigned, fitsHeader, usedUp, placeOf, writeString, writeOffset, writeList, writeChunk, writeField, writeRow}
+use Rattle.rules.specs.Writing.{Encoding, wrote, checked, fitsSigned, fitsHeader, usedUp, placeOf, writeString, writeOffset, writeList, writeChunk, writeField, writeRow}
 use Rattle.fields.specs.Writer.{behind, copiedBehind, putString, putOffset, putHeader, putField, stepField, stepRow}
 use Rattle.frames.proofs.Passes.{Lawful, bytesOf, not-wrote, Numbers, Puts, nothing, both, one}
 
