@@ -3,8 +3,9 @@ use mathlib.Core.Bool.{Bool, true, false}
 use mathlib.Core.List.{List, [], _∷_, map}
 use mathlib.Core.Option.{Option, none, some, Option·map}
 use Prim.Native.Nat.{ℕ, _+_, _≤_}
+use lib.Dec.{ltb}
 use lib.IntN.{ℤ, pos}
-use lib.ListN.{take, drop}
+use lib.ListN.{take, drop, length as len}
 use Rattle.protocol.specs.declared.chunk.ChunkHeader.{ChunkHeader}
 use Rattle.protocol.specs.declared.offset.OffsetSpecification.{OffsetSpecification}
 use Rattle.protocol.specs.declared.offset.OffsetSpecification.the-variants.{None}
@@ -73,6 +74,10 @@ place a l = record { at = a; len = l }
 -- The bytes at a place of a buffer.
 abbrev pub bytesAt : List ℕ → Place → List ℕ
 bytesAt s p = take (p .len) (drop (p .at) s)
+
+-- A place that reaches outside the source.
+abbrev pub outside : Place → List ℕ → Bool
+outside p src = ltb (len src) (p .at + p .len)
 
 -- A field with something else for each place in it.
 abbrev pub overPlaces : {P Q : Type 0} → (P → Q) → Field P → Field Q

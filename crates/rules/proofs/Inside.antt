@@ -98,7 +98,7 @@ module _ (s : List ℕ) where
   abbrev AllEnd : List (Field Place) → ℕ → Type 0
   AllEnd fs next = PlacesEndBy (length s) fs
 
-  inside-row : (row : Row) (at : ℕ) → Gives AllEnd (readRow row s at)
+  pub inside-row : (row : Row) (at : ℕ) → Gives AllEnd (readRow row s at)
   unfolding readRow
   inside-row end at = tt
   inside-row (k · row) at =
@@ -111,16 +111,16 @@ module _ (s : List ℕ) where
       after AllEnd AllEnd (readRow row s 0) _ (inside-row row 0) (λ fs last h.
       check AllEnd (ltb last (length s)) 11 last _ (λ _. h))
 
--- Places in the content, as places in the frame.
-moved : (n m : ℕ) (fs : List (Field Place)) → 8 + n ≤ m → PlacesEndBy n fs → PlacesEndBy m (map (overPlaces (further 8)) fs)
-moved n m [] l h = tt
-moved n m (f ∷ fs) l h = (one (f .octets) (h .0), moved n m fs l (h .1))
+-- Places in a part, as places in what the part begins in at a place.
+pub moved : (base n m : ℕ) (fs : List (Field Place)) → base + n ≤ m → PlacesEndBy n fs → PlacesEndBy m (map (overPlaces (further base)) fs)
+moved base n m [] l h = tt
+moved base n m (f ∷ fs) l h = (one (f .octets) (h .0), moved base n m fs l (h .1))
   where
-    one : (o : Option Place) → EndsBy n o → EndsBy m (Option·map (further 8) o)
+    one : (o : Option Place) → EndsBy n o → EndsBy m (Option·map (further base) o)
     one none h = tt
     one (some p) h = sum (p .at) (p .len) h
       where
-        sum : (a b : ℕ) → a + b ≤ n → 8 + a + b ≤ m
+        sum : (a b : ℕ) → a + b ≤ n → base + a + b ≤ m
         sum a b h = omega (arith, h, l)
 
 abbrev InFrame : ℕ → Reading → Type 0
@@ -129,7 +129,7 @@ InFrame n (short m) = Unit
 InFrame n (refusal m p) = Unit
 
 inside-reading : (n m k v : ℕ) (o : Outcome (List (Field Place))) → 8 + n ≤ m → Gives (λ fs _. PlacesEndBy n fs) o → InFrame m (readingOf k v o)
-inside-reading n m k v (got fs last) l h = moved n m fs l h
+inside-reading n m k v (got fs last) l h = moved 8 n m fs l h
 inside-reading n m k v (refused r p) l h = tt
 
 inside-layout : (m k v : ℕ) (c : List ℕ) → 8 + length c ≤ m → InFrame m (readLayout k v c)

@@ -5,6 +5,7 @@ pub mod Gives
 pub mod Bounds
 pub mod Parts
 pub mod Inside
+pub mod Elements
 pub mod SoundFields
 pub mod SoundChunks
 pub mod Listed

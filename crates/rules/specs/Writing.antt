@@ -11,7 +11,7 @@ use Rattle.wire.specs.Buffer.{splice}
 use Rattle.wire.specs.Integers.{digits}
 use Rattle.wire.specs.Signed as two's
 use Rattle.protocol.specs.Decision.{Decision, layout, unlistedKey, unlistedVersion, decide}
-use Rattle.protocol.specs.Fields.{Field, Fields, place, bytesAt}
+use Rattle.protocol.specs.Fields.{Field, Fields, place, bytesAt, outside}
 use Rattle.protocol.specs.Kinds.{lengthWidth, Kind, unsigned, signed, string, specification, list, chunk, Row, end, _·_}
 use Rattle.protocol.specs.Refusals.{frameTooLarge, unknownKey, unknownVersion, fieldCut, badLength, notUtf8, referenceTooLong, valueNotAdmitted, bytesLeft, noRoom}
 use Rattle.protocol.specs.Table.{rowOf}
@@ -39,10 +39,6 @@ abbrev pub followed : Encoding → Encoding → Encoding
 followed (wrote a) (wrote b) = wrote (a ++ b)
 followed (wrote a) (refuse n) = refuse n
 followed (refuse n) rest = refuse n
-
--- A place that reaches outside the source.
-abbrev pub outside : Place → List ℕ → Bool
-outside p src = ltb (len src) (p .at + p .len)
 
 -- A signed number fits n bytes.
 abbrev pub fitsSigned : ℕ → ℤ → Bool

@@ -1,0 +1,20 @@
+-- Its fields one behind another are the row.
+use Rattle.elements.proofs.Answers.{whole-element}
+use Rattle.elements.proofs.Places.{place-fits}
+use Rattle.fields.proofs.Chains.{done, link}
+use mathlib.Core.Path.{_∙_}
+use native.Mathlib.Omega.{arith}
+use borrow.Author.Needs.{needs}
+use Rattle.elements.proofs.asking.broker.Statement.{statement}
+use Rattle.elements.proofs.asking.broker.Tie as tie
+
+pub broker-spec : {M : Type 1} → statement M
+broker-spec =
+    tie.close
+    (tie.spec
+    (λ c κs. search needs)
+    (λ c κs. search needs)
+    (λ c κs. place-fits _ _ _ _ (c .before .before .before .before .pre) _ _ (c .string-field .ensures) (omega arith))
+    (λ c κs. search needs)
+    (λ c κs. search needs)
+    (λ c. rw (c .before .before .before .before .place-from .ensures) at (c .answer .ensures) ∙ whole-element _ (link (c .before .before .before .before .before .before .before .u16-field .ensures) (link (c .before .before .before .before .before .string-field .ensures) (link (c .before .before .u32-field .ensures) done)))))

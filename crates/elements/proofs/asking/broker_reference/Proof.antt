@@ -1,0 +1,15 @@
+-- Its fields one behind another are the row.
+use Rattle.elements.proofs.Answers.{whole-element}
+use Rattle.fields.proofs.Chains.{done, link}
+use mathlib.Core.Path.{_∙_}
+use borrow.Author.Needs.{needs}
+use Rattle.elements.proofs.asking.broker_reference.Statement.{statement}
+use Rattle.elements.proofs.asking.broker_reference.Tie as tie
+
+pub broker-reference-spec : {M : Type 1} → statement M
+broker-reference-spec =
+    tie.close
+    (tie.spec
+    (λ c κs. search needs)
+    (λ c κs. search needs)
+    (λ c. c .answer .ensures ∙ whole-element _ (link (c .before .before .u16-field .ensures) done)))

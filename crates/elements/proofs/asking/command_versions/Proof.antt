@@ -1,0 +1,17 @@
+-- Its fields one behind another are the row.
+use Rattle.elements.proofs.Answers.{whole-element}
+use Rattle.fields.proofs.Chains.{done, link}
+use mathlib.Core.Path.{_∙_}
+use borrow.Author.Needs.{needs}
+use Rattle.elements.proofs.asking.command_versions.Statement.{statement}
+use Rattle.elements.proofs.asking.command_versions.Tie as tie
+
+pub command-versions-spec : {M : Type 1} → statement M
+command-versions-spec =
+    tie.close
+    (tie.spec
+    (λ c κs. search needs)
+    (λ c κs. search needs)
+    (λ c κs. search needs)
+    (λ c κs. search needs)
+    (λ c. c .answer .ensures ∙ whole-element _ (link (c .before .before .before .before .before .before .u16-field .ensures) (link (c .before .before .before .before .u16-field2 .ensures) (link (c .before .before .u16-field3 .ensures) done)))))

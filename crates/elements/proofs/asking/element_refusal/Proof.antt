@@ -1,0 +1,17 @@
+-- By the answer.
+use Rattle.elements.specs.Answer.{elementAnswer}
+use Rattle.rules.specs.Elements.{numberOf}
+use mathlib.Core.Path.{_∙_, sym, ap}
+use borrow.Author.Needs.{needs}
+use Rattle.elements.proofs.asking.element_refusal.Statement.{statement}
+use Rattle.elements.proofs.asking.element_refusal.Tie as tie
+
+pub element-refusal-spec : {M : Type 1} → statement M
+element-refusal-spec =
+    tie.close
+    (tie.spec
+    (λ c κs. search needs)
+    (λ c. search needs)
+    (λ c. search needs)
+    (λ c. ap numberOf (ap elementAnswer (sym (c .enum-told .given .1)) ∙ c .before .before .element .ensures))
+    (λ c. ap numberOf (ap elementAnswer (sym (c .before .number .given .1)) ∙ c .before .before .before .element .ensures)))

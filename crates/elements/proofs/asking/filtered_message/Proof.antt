@@ -1,0 +1,21 @@
+-- Its fields one behind another are the row.
+use Rattle.elements.proofs.Answers.{whole-element}
+use Rattle.elements.proofs.Places.{nullable-fits, place-fits}
+use Rattle.fields.proofs.Chains.{done, link}
+use mathlib.Core.Path.{_∙_}
+use native.Mathlib.Omega.{arith}
+use borrow.Author.Needs.{needs}
+use Rattle.elements.proofs.asking.filtered_message.Statement.{statement}
+use Rattle.elements.proofs.asking.filtered_message.Tie as tie
+
+pub filtered-message-spec : {M : Type 1} → statement M
+filtered-message-spec =
+    tie.close
+    (tie.spec
+    (λ c κs. search needs)
+    (λ c κs. search needs)
+    (λ c κs. nullable-fits _ _ _ _ (c .before .before .before .before .pre) _ (c .nullable-field .result .value) (c .nullable-field .ensures) (omega arith))
+    (λ c κs. search needs)
+    (λ c κs. place-fits _ _ _ _ (c .before .before .before .before .before .before .before .pre) _ _ (c .string-field .ensures) (omega arith))
+    (λ c κs. search needs)
+    (λ c. rw (c .before .before .before .before .before .nullable-from .ensures, c .before .before .place-from .ensures) at (c .answer .ensures) ∙ whole-element _ (link (c .before .before .before .before .before .before .before .before .u64-field .ensures) (link (c .before .before .before .before .before .before .nullable-field .ensures) (link (c .before .before .before .string-field .ensures) done)))))

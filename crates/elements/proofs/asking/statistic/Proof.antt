@@ -1,0 +1,22 @@
+-- Its fields one behind another are the row.
+use Rattle.elements.proofs.Answers.{whole-element}
+use Rattle.elements.proofs.Places.{place-fits}
+use Rattle.fields.proofs.Chains.{done, link}
+use borrow.Author.Needs.{sfits-of}
+use mathlib.Core.Path.{_∙_}
+use mir.Facts.{toZ-ofZ}
+use mir.Syntax.{w64}
+use native.Mathlib.Omega.{arith}
+use borrow.Author.Needs.{needs}
+use Rattle.elements.proofs.asking.statistic.Statement.{statement}
+use Rattle.elements.proofs.asking.statistic.Tie as tie
+
+pub statistic-spec : {M : Type 1} → statement M
+statistic-spec =
+    tie.close
+    (tie.spec
+    (λ c κs. search needs)
+    (λ c κs. place-fits _ _ _ _ (c .before .before .pre) _ _ (c .string-field .ensures) (omega arith))
+    (λ c κs. search needs)
+    (λ c κs. search needs)
+    (λ c. rw (c .before .before .before .before .before .place-from .ensures, toZ-ofZ {w = w64} (sfits-of (c .before .before .before .i64-field .ok .1 .1 .0 .1))) at (c .answer .ensures) ∙ whole-element _ (link (c .before .before .before .before .before .before .string-field .ensures) (link (c .before .before .before .i64-field .ensures) done))))

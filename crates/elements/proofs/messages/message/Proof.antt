@@ -1,0 +1,20 @@
+-- A message that is found lies within the source, so its part is its bytes.
+use Rattle.elements.proofs.Answers.{message-part}
+use Rattle.elements.specs.Answer.{placeAnswer}
+use Rattle.rules.specs.Elements.{messagePart}
+use mathlib.Core.Path.{_∙_, sym, ap}
+use borrow.Author.Needs.{needs}
+use Rattle.elements.proofs.messages.message.Statement.{statement}
+use Rattle.elements.proofs.messages.message.Tie as tie
+
+pub message-spec : {M : Type 1} → statement M
+message-spec =
+    tie.close
+    (tie.spec
+    (λ c κs. search needs)
+    (λ c. search needs)
+    (λ c κs. search needs)
+    (λ c. search needs)
+    (λ c. search needs)
+    (λ c. c .part .ensures ∙ message-part _ 0 _ _ _ _ (ap placeAnswer (sym (c .before .before .place .given .1)) ∙ c .before .before .before .before .message-place .ensures))
+    (λ c. ap (messagePart _) (ap placeAnswer (sym (c .before .enum-told .given .1)) ∙ c .before .before .before .message-place .ensures)))

@@ -1,0 +1,21 @@
+-- What is found lies within the source, so its part is its bytes.
+use Rattle.elements.proofs.Answers.{element-part}
+use Rattle.elements.specs.Answer.{elementAnswer}
+use Rattle.rules.specs.Elements.{fieldPart}
+use mathlib.Core.Path.{_∙_, sym, ap}
+use borrow.Author.Needs.{needs}
+use Rattle.elements.proofs.strings.second_part.Statement.{statement}
+use Rattle.elements.proofs.strings.second_part.Tie as tie
+
+pub second-part-spec : {M : Type 1} → statement M
+second-part-spec =
+    tie.close
+    (tie.spec
+    (λ c κs. search needs)
+    (λ c. search needs)
+    (λ c κs. search needs)
+    (λ c κs. search needs)
+    (λ c. search needs)
+    (λ c. search needs)
+    (λ c. c .nullable-part .ensures ∙ element-part _ _ _ _ _ 1 (c .before .second-string .result) _ (ap elementAnswer (sym (c .before .before .before .e .given .1)) ∙ c .before .before .before .before .before .element .ensures) (c .before .second-string .ensures))
+    (λ c. ap (fieldPart 1 _) (ap elementAnswer (sym (c .before .enum-told .given .1)) ∙ c .before .before .before .element .ensures)))

@@ -1,0 +1,40 @@
+// Parts of the caller's bytes (01: text, a message or a property "comes back as a part of the caller's own bytes").
+ghost use mathlib.Core.Path.{_≡_};
+ghost use Rattle.protocol.specs.Fields.{outside};
+ghost use Rattle.rules.specs.Elements.{partAt};
+ghost use Rattle.elements.specs.Answer.{nullablePart};
+use protocol::NullablePlace;
+use protocol::Place;
+
+// The bytes at a place; an empty part where the place reaches outside.
+pub fn part(s: &[u8], p: Place) -> &[u8]
+    ensures { λ r. ⌜ now r ≡ partAt (now (s .entry)) p ⌝ }
+{
+    if is_outside(s, p) {
+        return &s[..0];
+    }
+    let at = p.at;
+    let end = at + p.len;
+    &s[at..end]
+}
+
+// A null gives an empty part.
+pub fn nullable_part(s: &[u8], p: NullablePlace) -> &[u8]
+    ensures { λ r. ⌜ now r ≡ nullablePart (now (s .entry)) p ⌝ }
+{
+    match p {
+        NullablePlace::Null => &s[..0],
+        NullablePlace::At(place) => part(s, place),
+    }
+}
+
+// Whether a place reaches outside the source. The sum of start and length may be too large for a usize: outside too.
+pub(crate) fn is_outside(s: &[u8], p: Place) -> bool
+    ensures { λ r. ⌜ r ≡ outside p (now (s .entry)) ⌝ }
+{
+    let at = p.at;
+    if s.len() < at {
+        return true;
+    }
+    s.len() - at < p.len
+}

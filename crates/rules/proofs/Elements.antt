@@ -1,0 +1,178 @@
+-- What a question finds lies within the source: the elements and entries lie within their place, and that place within
+-- the source. So the part of the source at such a place is exactly the field's bytes. Assumes nothing.
+use mathlib.Core.Path.{_≡_, refl, _∙_, sym, ap, ap₂, subst}
+use mathlib.Core.Bool.{Bool, true, false, not, cond}
+use mathlib.Core.List.{List, [], _∷_, map}
+use mathlib.Core.Option.{Option, none, some, Option·map}
+use Prim.Native.Nat.{ℕ, zero, suc, _+_, _-_, _≤_}
+use native.Mathlib.Omega.{arith}
+use lib.Dec.{ltb, leb}
+use lib.ListN.{length, take, drop}
+use borrow.Author.Tests.{le-ltb, ltb-false}
+use Rattle.wire.specs.Integers.{bigEndian}
+use Rattle.protocol.specs.Fields.{Field, Fields, bytesAt, outside, overPlaces, valueIn, further, EndsBy, PlacesEndBy}
+use Rattle.protocol.specs.Kinds.{Row}
+use Rattle.protocol.specs.Refusals.{fieldCut, valueNotAdmitted}
+use Rattle.protocol.specs.Table.{rowOf}
+use Rattle.protocol.specs.declared.chunk.ChunkHeader.{ChunkHeader}
+use Rattle.protocol.specs.declared.place.Place.{Place}
+use Rattle.rules.specs.Outcome.{Outcome, got, refused, then, repeated, mapped}
+use Rattle.rules.specs.Reading.{hasEntries, readEntry, readRow, Reading, frame, short, refusal, readFrame, readLayout, readingOf, readContent}
+use Rattle.rules.specs.Exactness.{frameLength}
+use Rattle.rules.specs.Elements.{Asked, found, asked, readNth, elementAt, messageAt, partAt, octetsIn, placeIn}
+use Rattle.rules.specs.Elements as E
+use Rattle.rules.proofs.Bounds.{Numbered, numbered-repeated, numbered-row, numbered-entry}
+use Rattle.rules.proofs.Gives.{Gives, choice, check, after, after-number, frame-cases}
+use Rattle.rules.proofs.Inside.{inside-row, moved, inside}
+use Rattle.rules.proofs.Parts.{length-part}
+
+-- ---- Parts
+
+-- The part at a place within the source is the bytes at it.
+pub part-inside : (s : List ℕ) (p : Place) → EndsBy (length s) (some p) → partAt s p ≡ bytesAt s p
+part-inside s p h = rw (le-ltb (length s) (p .at + p .len) h)
+
+-- The parts of fields whose places are within the source are their values.
+pub parts-are-values : (s : List ℕ) (fs : List (Field Place)) → PlacesEndBy (length s) fs → map (overPlaces (partAt s)) fs ≡ map (valueIn s) fs
+parts-are-values s [] h = refl
+parts-are-values s (f ∷ fs) h = ap₂ (λ x xs. x ∷ xs) (one f (h .0)) (parts-are-values s fs (h .1))
+  where
+    by : (o : Option Place) → EndsBy (length s) o → Option·map (partAt s) o ≡ Option·map (bytesAt s) o
+    by none h = refl
+    by (some p) h = ap some (part-inside s p h)
+
+    one : (f : Field Place) → EndsBy (length s) (f .octets) → overPlaces (partAt s) f ≡ overPlaces (bytesAt s) f
+    one f h = λ i. record { number = f .number; integer = f .integer; octets = by (f .octets) h i; offset = f .offset; header = f .header }
+
+ends-later : (n m : ℕ) (fs : List (Field Place)) → n ≤ m → PlacesEndBy n fs → PlacesEndBy m fs
+ends-later n m [] l h = tt
+ends-later n m (f ∷ fs) l h = (one (f .octets) (h .0), ends-later n m fs l (h .1))
+  where
+    one : (o : Option Place) → EndsBy n o → EndsBy m o
+    one none h = tt
+    one (some p) h = sum (p .at) (p .len) h
+      where
+        sum : (a b : ℕ) → a + b ≤ n → a + b ≤ m
+        sum a b h = omega (arith, h, l)
+
+abbrev There : List ℕ → Reading → Type 0
+There s (frame g) = frameLength s ≤ length s
+There s (short n) = Unit
+There s (refusal n p) = Unit
+
+-- A frame that is read is all there.
+whole : (s : List ℕ) (limit : ℕ) (f : Fields Place) → readFrame s limit ≡ frame f → frameLength s ≤ length s
+unfolding readLayout
+whole s limit f e = subst (There s) e (frame-cases (There s) (λ _. tt) (λ _ _. tt) s limit (λ _ l w k v _. by k v (readContent (rowOf k v) (take (bigEndian 4 s 0 - 4) (drop 8 s))) w))
+  where
+    by : (k v : ℕ) (o : Outcome (List (Field Place))) → frameLength s ≤ length s → There s (readingOf k v o)
+    by k v (got fs last) w = w
+    by k v (refused n p) w = tt
+
+-- The part of any place of a frame that was read is exactly that field's bytes.
+pub parts-of-a-frame : (s : List ℕ) (limit : ℕ) (f : Fields Place) → readFrame s limit ≡ frame f → map (overPlaces (partAt s)) (f .content) ≡ map (valueIn s) (f .content)
+parts-of-a-frame s limit f e =
+    parts-are-values s (f .content) (ends-later (frameLength s) (length s) (f .content) (whole s limit f e) (inside s limit f e))
+
+-- ---- Elements and messages
+
+module _ {A : Type 0} (read : List ℕ → ℕ → Outcome A) (part : List ℕ) (index : ℕ) where
+  -- What holds of each that is read holds of the one at an index.
+  pub nth-gives : (P : A → ℕ → Type 0) → ((at : ℕ) → Gives P (read part at)) → Gives P (readNth read index part)
+  unfolding readNth
+  nth-gives P h = by (repeated read index part 0)
+    where
+      by : (o : Outcome Unit) → Gives P (then o (λ _ at. read part at))
+      by (got _ at) = h at
+      by (refused n at) = tt
+
+  pub nth-numbered : ((t : List ℕ) (at : ℕ) → Numbered (read t at)) → Numbered (readNth read index part)
+  unfolding readNth
+  nth-numbered h = by (repeated read index part 0) (numbered-repeated read h index part 0)
+    where
+      by : (o : Outcome Unit) → Numbered o → Numbered (then o (λ _ at. read part at))
+      by (got _ at) k = h part at
+      by (refused n at) k = k
+
+-- What holds of an answer: of what was found, and of a refusal that its number is not 0.
+abbrev Answers : {A : Type 0} → (A → Type 0) → Asked A → Type 0
+Answers P (found a) = P a
+Answers P (E.refusal n) = n ≡ 0 → ⊥
+
+answers : {A B : Type 0} (P : A → ℕ → Type 0) (Q : B → Type 0) (f : A → B) (o : Outcome A) → ((a : A) (next : ℕ) → P a next → Q (f a)) → Gives P o → Numbered o → Answers Q (asked (mapped f o))
+answers P Q f (got a next) h g n = h a next g
+answers P Q f (refused m at) h g n = n
+
+not-6 : fieldCut ≡ 0 → ⊥
+not-6 e = omega arith
+
+not-10 : valueNotAdmitted ≡ 0 → ⊥
+not-10 e = omega arith
+
+-- A message lies within its part.
+pub entry-inside : (part : List ℕ) (at : ℕ) → Gives (λ q _. EndsBy (length part) (some q)) (readEntry part at)
+unfolding readEntry
+entry-inside part at =
+    after-number (λ q _. EndsBy (length part) (some q)) 4 part at _ (λ _.
+    check (λ q _. EndsBy (length part) (some q)) (leb 0x8000_0000 (bigEndian 4 part at)) 10 at _ (λ _.
+    check (λ q _. EndsBy (length part) (some q)) (ltb (length part) (at + 4 + bigEndian 4 part at)) 6 at _ (λ e. ltb-false _ _ e)))
+
+module _ (s : List ℕ) (p : Place) (index : ℕ) where
+  room : outside p s ≡ false → p .at + length (bytesAt s p) ≤ length s
+  room o = sum (p .at) (p .len) (length (bytesAt s p)) (length-part (p .len) (p .at) s (ltb-false _ _ o)) (ltb-false _ _ o)
+    where
+      sum : (a l m : ℕ) → m ≡ l → a + l ≤ length s → a + m ≤ length s
+      sum a l m e h = omega (arith, e, h)
+
+  module _ (row : Row) (count : ℕ) where
+    element-answers : Answers (PlacesEndBy (length s)) (elementAt row s count p index)
+    unfolding elementAt
+    element-answers =
+        choice (Answers (PlacesEndBy (length s))) (outside p s) _ _ (λ _. not-6) (λ o.
+        choice (Answers (PlacesEndBy (length s))) (leb count index) _ _ (λ _. not-10) (λ _.
+        answers (λ fs _. PlacesEndBy (length (bytesAt s p)) fs) (PlacesEndBy (length s)) _ (readNth (readRow row) index (bytesAt s p))
+        (λ fs _ h. moved (p .at) (length (bytesAt s p)) (length s) fs (room o) h)
+        (nth-gives (readRow row) (bytesAt s p) index _ (λ at. inside-row (bytesAt s p) row at))
+        (nth-numbered (readRow row) (bytesAt s p) index (λ t at. numbered-row row t at))))
+
+    -- Every place in an element that is found lies within the source.
+    pub element-inside : (fs : List (Field Place)) → elementAt row s count p index ≡ found fs → PlacesEndBy (length s) fs
+    element-inside fs e = subst (Answers (PlacesEndBy (length s))) e element-answers
+
+    -- So 0 can say that there is no refusal.
+    pub element-numbered : (n : ℕ) → elementAt row s count p index ≡ E.refusal n → n ≡ 0 → ⊥
+    element-numbered n e = subst (Answers (PlacesEndBy (length s))) e element-answers
+
+  abbrev Within : Place → Type 0
+  Within q = EndsBy (length s) (some q)
+
+  further-inside : (part : List ℕ) (q : Place) → p .at + length part ≤ length s → EndsBy (length part) (some q) → Within (further (p .at) q)
+  further-inside part q h k = sum (p .at) (q .at) (q .len) (length part) h k
+    where
+      sum : (b a l n : ℕ) → b + n ≤ length s → a + l ≤ n → b + a + l ≤ length s
+      sum b a l n h k = omega (arith, h, k)
+
+  module _ (h : ChunkHeader) where
+    message-answers : Answers Within (messageAt s h p index)
+    unfolding messageAt
+    message-answers =
+        choice (Answers Within) (outside p s) _ _ (λ _. not-6) (λ o.
+        choice (Answers Within) (not (hasEntries (h .«chunk_type»))) _ _ (λ _. not-10) (λ _.
+        choice (Answers Within) (leb (h .entries) index) _ _ (λ _. not-10) (λ _.
+        answers (λ q _. EndsBy (length (bytesAt s p)) (some q)) Within _ (readNth readEntry index (bytesAt s p))
+        (λ q _ k. further-inside (bytesAt s p) q (room o) k)
+        (nth-gives readEntry (bytesAt s p) index _ (λ at. entry-inside (bytesAt s p) at))
+        (nth-numbered readEntry (bytesAt s p) index numbered-entry))))
+
+    -- A message that is found lies within the source.
+    pub message-inside : (q : Place) → messageAt s h p index ≡ found q → EndsBy (length s) (some q)
+    message-inside q e = subst (Answers Within) e message-answers
+
+    pub message-numbered : (n : ℕ) → messageAt s h p index ≡ E.refusal n → n ≡ 0 → ⊥
+    message-numbered n e = subst (Answers Within) e message-answers
+
+-- One field of an element.
+pub place-inside : (n m : ℕ) (fs : List (Field Place)) → PlacesEndBy m fs → EndsBy m (placeIn n fs)
+place-inside n m [] h = tt
+place-inside zero m (f ∷ fs) h = h .0
+place-inside (suc n) m (f ∷ fs) h = place-inside n m fs (h .1)
