@@ -1,0 +1,2 @@
+-- Demand 3 for the publisher ledger.
+pub mod Demand3
