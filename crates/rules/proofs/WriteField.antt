@@ -14,7 +14,7 @@ use lib.ListN.{length}
 use borrow.Author.Tests.{lt-ltb, le-ltb, lt-leb, eq-eqb, ltb-true, ltb-false, leb-false, eqb-true, not-false}
 use Rattle.wire.specs.Integers.{Bytes, digits}
 use Rattle.wire.specs.Signed as two's
-use Rattle.protocol.specs.Fields.{Field, number, integer, elements, bytesAt, valueIn, EndsBy, PlacesEndBy}
+use Rattle.protocol.specs.Fields.{Field, number, integer, elements, bytesAt, outside, valueIn, EndsBy, PlacesEndBy}
 use Rattle.protocol.specs.Fields as F
 use Rattle.protocol.specs.Kinds.{lengthWidth, Kind, unsigned, signed, string, specification, list, chunk, Row, end, _·_}
 use Rattle.protocol.specs.Refusals.{fieldCut, badLength, notUtf8, referenceTooLong, valueNotAdmitted, bytesLeft}
@@ -35,7 +35,7 @@ use Rattle.rules.proofs.SoundFields.{Element, Piece, Pieced, valid-byte
 use Rattle.rules.specs.Grammar.{encodeString, encodeOffset, encodeHeader, body, encode, encodeRow, Pieces, Length, ValidString, ValidOffset, ValidHeader, Entry, ValidChunk, Valid, ValidRow}
 use Rattle.rules.specs.Outcome.{Outcome, got, refused, repeated}
 use Rattle.rules.specs.Reading.{tooLong, isText, isChunkType, hasEntries, readEntry, readRow}
-use Rattle.rules.specs.Writing.{Encoding, wrote, refuse, checked, followed, outside, fitsSigned, writeUnsigned, writeSigned, writeString, writeOffset, usedUp, writeList, fitsHeader, writeChunk, placeOf, writeField, writeRow}
+use Rattle.rules.specs.Writing.{Encoding, wrote, refuse, checked, followed, fitsSigned, writeUnsigned, writeSigned, writeString, writeOffset, usedUp, writeList, fitsHeader, writeChunk, placeOf, writeField, writeRow}
 
 -- ---- What is well formed is written
 

@@ -1,0 +1,2 @@
+-- Flat frames and elements.
+pub mod Flat
