@@ -91,7 +91,7 @@ pub fn texts_number(key: u64, version: u64, p: Place, q: Place, a: u64) -> [u64;
 
 // N P O
 pub fn number_text_nullable(key: u64, version: u64, a: u64, p: Place, o: NullablePlace) -> [u64; 24]
-    ensures { λ r. ⌜ r ≡ padded 24 (key ∷ version ∷ a ∷ flatPlace p ++ flatOctets (nullableField o .octets)) ⌝ }
+    ensures { λ r. ⌜ r ≡ padded 24 (key ∷ version ∷ a ∷ flatPlace p ++ flatOctets (nullableField o .octets) ++ []) ⌝ }
 {
     number_texts(key, version, a, p, place_or_null(o))
 }
@@ -108,7 +108,7 @@ pub fn numbers_text(key: u64, version: u64, a: u64, b: u64, p: Place) -> [u64; 2
 
 // N N O
 pub fn numbers_nullable(key: u64, version: u64, a: u64, b: u64, o: NullablePlace) -> [u64; 24]
-    ensures { λ r. ⌜ r ≡ padded 24 (key ∷ version ∷ a ∷ b ∷ flatOctets (nullableField o .octets)) ⌝ }
+    ensures { λ r. ⌜ r ≡ padded 24 (key ∷ version ∷ a ∷ b ∷ flatOctets (nullableField o .octets) ++ []) ⌝ }
 {
     numbers_text(key, version, a, b, place_or_null(o))
 }
@@ -199,7 +199,7 @@ pub fn number_text_lists(
 
 // N N S
 pub fn numbers_offset(key: u64, version: u64, a: u64, b: u64, s: OffsetSpecification) -> [u64; 24]
-    ensures { λ r. ⌜ r ≡ padded 24 (key ∷ version ∷ a ∷ b ∷ flatOffset s) ⌝ }
+    ensures { λ r. ⌜ r ≡ padded 24 (key ∷ version ∷ a ∷ b ∷ flatOffset s ++ []) ⌝ }
 {
     let s = flat_offset(s);
     let mut slots = three_numbers(key, version, a, b, s.kind);
