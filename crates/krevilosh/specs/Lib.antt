@@ -1,0 +1,2 @@
+-- What the functions that the host calls hand back.
+pub mod Answer
