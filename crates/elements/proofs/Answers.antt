@@ -1,16 +1,20 @@
 -- The cursor behind the fields of an element tells the answer, and the cursor behind the elements in front of it tells
 -- where it starts. Assumes nothing.
 use mathlib.Core.Path.{_≡_, refl, _∙_, sym, ap, ap₂, subst}
-use mathlib.Core.Bool.{Bool, true, false, cond}
+use mathlib.Core.Bool.{true, false}
 use mathlib.Core.List.{List, [], _∷_, map}
 use mathlib.Core.Option.{Option, none, some, Option·map}
-use Prim.Native.Nat.{ℕ, _+_, _-_, _≤_, _<_}
+use Prim.Native.Nat.{ℕ, _+_, _-_, _^_, _≤_, _<_}
 use native.Mathlib.Omega.{arith}
+use borrow.Author.Needs.{sfits-of}
 use borrow.Author.Tests.{ne-eqb, le-leb, lt-leb}
-use lib.Dec.{eqb}
 use lib.IntN.{ℤ, pos, negsuc}
 use lib.ListN.{length, take, drop}
-use Rattle.protocol.specs.Fields.{Field, place, bytesAt, outside, overPlaces, further, EndsBy, PlacesEndBy}
+use lib.Signed.{mag}
+use mir.Facts.{toZ-ofZ}
+use mir.Syntax.{w8}
+use mir.Val.{ofZ, toZ, hbits}
+use Rattle.protocol.specs.Fields.{Field, place, outside, overPlaces, further, EndsBy}
 use Rattle.protocol.specs.Frames.{nullableField}
 use Rattle.protocol.specs.Kinds.{Row}
 use Rattle.protocol.specs.Refusals.{fieldCut, valueNotAdmitted}
@@ -133,21 +137,27 @@ module _ (row : Row) (s : List ℕ) (count : ℕ) (p : Place) (index : ℕ) wher
     unfolding elementAt
     element-there r h e = rw (o, lt-leb count index h, ← part-of s (p .at) (p .len)) e
 
+-- The bits of a chunk's type are 0 exactly if the type is.
+pub other-type : (z : ℤ) → (ofZ w8 z ≡ 0 → ⊥) → hasEntries z ≡ false
+other-type (pos n) t = ne-eqb n 0 (λ e. t (ap (λ (m : ℕ). ofZ w8 (pos m)) e))
+other-type (negsuc k) t = refl
+
+pub zero-type : (z : ℤ) → mag z < 2 ^ hbits w8 → ofZ w8 z ≡ 0 → hasEntries z ≡ true
+zero-type z h e =
+    let f : z ≡ pos 0 = sym (toZ-ofZ (sfits-of {w = w8} {z = z} h)) ∙ ap (toZ w8) e in
+    ap hasEntries f
+
 module _ (s : List ℕ) (h : ChunkHeader) (p : Place) (index : ℕ) where
   pub message-outside : outside p s ≡ true → refusal fieldCut ≡ messageAt s h p index
   unfolding messageAt
   message-outside o = rw o
 
   module _ (o : outside p s ≡ false) where
-    pub message-unopened : (h .«chunk_type» ≡ pos 0 → ⊥) → refusal valueNotAdmitted ≡ messageAt s h p index
+    pub message-unopened : hasEntries (h .«chunk_type») ≡ false → refusal valueNotAdmitted ≡ messageAt s h p index
     unfolding messageAt
-    message-unopened t = rw (o, other-type (h .«chunk_type») t)
-      where
-        other-type : (z : ℤ) → (z ≡ pos 0 → ⊥) → hasEntries z ≡ false
-        other-type (pos n) t = ne-eqb n 0 (λ e. t (ap pos e))
-        other-type (negsuc k) t = refl
+    message-unopened t = rw (o, t)
 
-    module _ (t : h .«chunk_type» ≡ pos 0) where
+    module _ (t : hasEntries (h .«chunk_type») ≡ true) where
       pub message-beyond : h .entries ≤ index → refusal valueNotAdmitted ≡ messageAt s h p index
       unfolding messageAt
       message-beyond l = rw (o, t, le-leb (h .entries) index l)
@@ -158,14 +168,15 @@ module _ (s : List ℕ) (h : ChunkHeader) (p : Place) (index : ℕ) where
 
 -- ---- Parts of what was found
 
-module _ (s : List ℕ) (count : ℕ) (p : Place) (index : ℕ) where
+module _ (s : List ℕ) (p : Place) (index : ℕ) (r : List ℕ) where
   -- A field of an element that is found lies within the source, so the part at its place is its bytes.
-  pub element-part : (row : Row) (n : ℕ) (v : NullablePlace) (fs : List (Field Place)) → found fs ≡ elementAt row s count p index → nullableField v .octets ≡ placeIn n fs → nullablePart s v ≡ fieldPart n s (elementAt row s count p index)
-  element-part row n v fs e o = by v o ∙ ap (fieldPart n s) e
+  pub element-part : (row : Row) (count n : ℕ) (v : NullablePlace) (fs : List (Field Place)) → r ≡ nullablePart s v → found fs ≡ elementAt row s count p index → nullableField v .octets ≡ placeIn n fs → r ≡ fieldPart n s (elementAt row s count p index)
+  element-part row count n v fs i e o = i ∙ by v o ∙ ap (fieldPart n s) e
     where
       by : (v : NullablePlace) → nullableField v .octets ≡ placeIn n fs → nullablePart s v ≡ octetsIn s (placeIn n fs)
       by Null o = ap (octetsIn s) o
       by (At q) o = part-inside s q (subst (EndsBy (length s)) (sym o) (place-inside n (length s) fs (element-inside s p index row count fs (sym e)))) ∙ ap (octetsIn s) o
 
-  pub message-part : (h : ChunkHeader) (q : Place) → found q ≡ messageAt s h p index → partAt s q ≡ messagePart s (messageAt s h p index)
-  message-part h q e = part-inside s q (message-inside s p index h q (sym e)) ∙ ap (messagePart s) e
+  -- So it is with a message.
+  pub message-part : (h : ChunkHeader) (q : Place) → r ≡ partAt s q → found q ≡ messageAt s h p index → r ≡ messagePart s (messageAt s h p index)
+  message-part h q i e = i ∙ part-inside s q (message-inside s p index h q (sym e)) ∙ ap (messagePart s) e

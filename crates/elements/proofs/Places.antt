@@ -2,21 +2,20 @@
 -- place that was read lies within its part. Assumes nothing.
 use mathlib.Core.Path.{_≡_, refl, _∙_, sym, ap, subst}
 use mathlib.Core.Bool.{Bool, true, false}
-use mathlib.Core.List.{List, []}
+use mathlib.Core.List.{List}
 use mathlib.Core.Option.{Option, none, some, Option·map}
 use Prim.Native.Nat.{ℕ, _+_, _-_, _<_, _≤_}
 use native.Mathlib.Omega.{arith}
 use lib.Dec.{ltb}
 use lib.ListN.{length, take, drop}
 use borrow.Author.Tests.{lt-ltb, le-ltb, ltb-true, ltb-false}
-use Rattle.protocol.specs.Fields.{Field, place, bytesAt, outside, overPlaces, further, EndsBy}
+use Rattle.protocol.specs.Fields.{Field, place, bytesAt, outside, further, EndsBy}
 use Rattle.protocol.specs.Frames.{placeField, nullableField, listField}
 use Rattle.protocol.specs.Kinds.{Kind, unsigned, signed, string, specification, list, chunk}
 use Rattle.protocol.specs.declared.place.Elements.{Elements}
 use Rattle.protocol.specs.declared.place.NullablePlace.{NullablePlace}
 use Rattle.protocol.specs.declared.place.NullablePlace.the-variants.{Null, At}
 use Rattle.protocol.specs.declared.place.Place.{Place}
-use Rattle.rules.specs.Elements.{partAt}
 use Rattle.rules.specs.Outcome.{Outcome, got, refused}
 use Rattle.rules.specs.Reading.{readField}
 use Rattle.rules.proofs.Gives.{Gives}

@@ -1,28 +1,27 @@
 -- What a question finds lies within the source: the elements and entries lie within their place, and that place within
 -- the source. So the part of the source at such a place is exactly the field's bytes. Assumes nothing.
-use mathlib.Core.Path.{_≡_, refl, _∙_, sym, ap, ap₂, subst}
-use mathlib.Core.Bool.{Bool, true, false, not, cond}
+use mathlib.Core.Path.{_≡_, refl, ap, ap₂, subst}
+use mathlib.Core.Bool.{false, not}
 use mathlib.Core.List.{List, [], _∷_, map}
 use mathlib.Core.Option.{Option, none, some, Option·map}
-use Prim.Native.Nat.{ℕ, zero, suc, _+_, _-_, _≤_}
+use Prim.Native.Nat.{ℕ, zero, suc, _+_, _≤_}
 use native.Mathlib.Omega.{arith}
 use lib.Dec.{ltb, leb}
-use lib.ListN.{length, take, drop}
+use lib.ListN.{length}
 use borrow.Author.Tests.{le-ltb, ltb-false}
 use Rattle.wire.specs.Integers.{bigEndian}
 use Rattle.protocol.specs.Fields.{Field, Fields, bytesAt, outside, overPlaces, valueIn, further, EndsBy, PlacesEndBy}
 use Rattle.protocol.specs.Kinds.{Row}
 use Rattle.protocol.specs.Refusals.{fieldCut, valueNotAdmitted}
-use Rattle.protocol.specs.Table.{rowOf}
 use Rattle.protocol.specs.declared.chunk.ChunkHeader.{ChunkHeader}
 use Rattle.protocol.specs.declared.place.Place.{Place}
 use Rattle.rules.specs.Outcome.{Outcome, got, refused, then, repeated, mapped}
-use Rattle.rules.specs.Reading.{hasEntries, readEntry, readRow, Reading, frame, short, refusal, readFrame, readLayout, readingOf, readContent}
+use Rattle.rules.specs.Reading.{hasEntries, readEntry, readRow, frame, readFrame}
 use Rattle.rules.specs.Exactness.{frameLength}
-use Rattle.rules.specs.Elements.{Asked, found, asked, readNth, elementAt, messageAt, partAt, octetsIn, placeIn}
-use Rattle.rules.specs.Elements as E
+use Rattle.rules.specs.Elements.{Asked, found, refusal, asked, readNth, elementAt, messageAt, partAt, placeIn}
 use Rattle.rules.proofs.Bounds.{Numbered, numbered-repeated, numbered-row, numbered-entry}
-use Rattle.rules.proofs.Gives.{Gives, choice, check, after, after-number, frame-cases}
+use Rattle.rules.proofs.Gives.{Gives, choice, check, after-number}
+use Rattle.rules.proofs.Heads.{Head, head}
 use Rattle.rules.proofs.Inside.{inside-row, moved, inside}
 use Rattle.rules.proofs.Parts.{length-part}
 
@@ -55,24 +54,11 @@ ends-later n m (f ∷ fs) l h = (one (f .octets) (h .0), ends-later n m fs l (h 
         sum : (a b : ℕ) → a + b ≤ n → a + b ≤ m
         sum a b h = omega (arith, h, l)
 
-abbrev There : List ℕ → Reading → Type 0
-There s (frame g) = frameLength s ≤ length s
-There s (short n) = Unit
-There s (refusal n p) = Unit
-
--- A frame that is read is all there.
-whole : (s : List ℕ) (limit : ℕ) (f : Fields Place) → readFrame s limit ≡ frame f → frameLength s ≤ length s
-unfolding readLayout
-whole s limit f e = subst (There s) e (frame-cases (There s) (λ _. tt) (λ _ _. tt) s limit (λ _ l w k v _. by k v (readContent (rowOf k v) (take (bigEndian 4 s 0 - 4) (drop 8 s))) w))
-  where
-    by : (k v : ℕ) (o : Outcome (List (Field Place))) → frameLength s ≤ length s → There s (readingOf k v o)
-    by k v (got fs last) w = w
-    by k v (refused n p) w = tt
-
 -- The part of any place of a frame that was read is exactly that field's bytes.
 pub parts-of-a-frame : (s : List ℕ) (limit : ℕ) (f : Fields Place) → readFrame s limit ≡ frame f → map (overPlaces (partAt s)) (f .content) ≡ map (valueIn s) (f .content)
 parts-of-a-frame s limit f e =
-    parts-are-values s (f .content) (ends-later (frameLength s) (length s) (f .content) (whole s limit f e) (inside s limit f e))
+    let there : Head s (frame f) = subst (Head s) e (head s limit) in
+    parts-are-values s (f .content) (ends-later (frameLength s) (length s) (f .content) (there .1) (inside s limit f e))
 
 -- ---- Elements and messages
 
@@ -97,7 +83,7 @@ module _ {A : Type 0} (read : List ℕ → ℕ → Outcome A) (part : List ℕ) 
 -- What holds of an answer: of what was found, and of a refusal that its number is not 0.
 abbrev Answers : {A : Type 0} → (A → Type 0) → Asked A → Type 0
 Answers P (found a) = P a
-Answers P (E.refusal n) = n ≡ 0 → ⊥
+Answers P (refusal n) = n ≡ 0 → ⊥
 
 answers : {A B : Type 0} (P : A → ℕ → Type 0) (Q : B → Type 0) (f : A → B) (o : Outcome A) → ((a : A) (next : ℕ) → P a next → Q (f a)) → Gives P o → Numbered o → Answers Q (asked (mapped f o))
 answers P Q f (got a next) h g n = h a next g
@@ -140,7 +126,7 @@ module _ (s : List ℕ) (p : Place) (index : ℕ) where
     element-inside fs e = subst (Answers (PlacesEndBy (length s))) e element-answers
 
     -- So 0 can say that there is no refusal.
-    pub element-numbered : (n : ℕ) → elementAt row s count p index ≡ E.refusal n → n ≡ 0 → ⊥
+    pub element-numbered : (n : ℕ) → elementAt row s count p index ≡ refusal n → n ≡ 0 → ⊥
     element-numbered n e = subst (Answers (PlacesEndBy (length s))) e element-answers
 
   abbrev Within : Place → Type 0
@@ -168,7 +154,7 @@ module _ (s : List ℕ) (p : Place) (index : ℕ) where
     pub message-inside : (q : Place) → messageAt s h p index ≡ found q → EndsBy (length s) (some q)
     message-inside q e = subst (Answers Within) e message-answers
 
-    pub message-numbered : (n : ℕ) → messageAt s h p index ≡ E.refusal n → n ≡ 0 → ⊥
+    pub message-numbered : (n : ℕ) → messageAt s h p index ≡ refusal n → n ≡ 0 → ⊥
     message-numbered n e = subst (Answers Within) e message-answers
 
 -- One field of an element.

@@ -5,11 +5,11 @@ pub mod Gives
 pub mod Bounds
 pub mod Parts
 pub mod Inside
-pub mod Elements
 pub mod SoundFields
 pub mod SoundChunks
 pub mod Listed
 pub mod Heads
+pub mod Elements
 pub mod Sound
 pub mod Beyond
 pub mod CompleteFields

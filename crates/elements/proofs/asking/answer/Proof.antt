@@ -1,6 +1,5 @@
 -- The cursor is refused or it is not.
 use borrow.Author.Tests.{eq-eqb, ne-eqb}
-use borrow.Author.Needs.{needs}
 use Rattle.elements.proofs.asking.answer.Statement.{statement}
 use Rattle.elements.proofs.asking.answer.Tie as tie
 

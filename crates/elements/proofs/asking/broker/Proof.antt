@@ -17,4 +17,8 @@ broker-spec =
     (λ c κs. place-fits _ _ _ _ (c .before .before .before .before .pre) _ _ (c .string-field .ensures) (omega arith))
     (λ c κs. search needs)
     (λ c κs. search needs)
-    (λ c. rw (c .before .before .before .before .place-from .ensures) at (c .answer .ensures) ∙ whole-element _ (link (c .before .before .before .before .before .before .before .u16-field .ensures) (link (c .before .before .before .before .before .string-field .ensures) (link (c .before .before .u32-field .ensures) done)))))
+    (λ c.
+    let port = c .before .before in
+    let host = port .before .before .before in
+    let reference = host .before .before in
+    rw (port .before .before .place-from .ensures) at (c .answer .ensures) ∙ whole-element _ (link (reference .u16-field .ensures) (link (host .string-field .ensures) (link (port .u32-field .ensures) done)))))

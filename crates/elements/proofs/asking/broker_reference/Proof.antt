@@ -12,4 +12,6 @@ broker-reference-spec =
     (tie.spec
     (λ c κs. search needs)
     (λ c κs. search needs)
-    (λ c. c .answer .ensures ∙ whole-element _ (link (c .before .before .u16-field .ensures) done)))
+    (λ c.
+    let reference = c .before .before in
+    c .answer .ensures ∙ whole-element _ (link (reference .u16-field .ensures) done)))

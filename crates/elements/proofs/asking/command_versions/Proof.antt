@@ -14,4 +14,8 @@ command-versions-spec =
     (λ c κs. search needs)
     (λ c κs. search needs)
     (λ c κs. search needs)
-    (λ c. c .answer .ensures ∙ whole-element _ (link (c .before .before .before .before .before .before .u16-field .ensures) (link (c .before .before .before .before .u16-field2 .ensures) (link (c .before .before .u16-field3 .ensures) done)))))
+    (λ c.
+    let max-version = c .before .before in
+    let min-version = max-version .before .before in
+    let key = min-version .before .before in
+    c .answer .ensures ∙ whole-element _ (link (key .u16-field .ensures) (link (min-version .u16-field2 .ensures) (link (max-version .u16-field3 .ensures) done)))))

@@ -14,9 +14,21 @@ element-spec =
     (λ c κs. search needs)
     (λ c. element-outside _ _ _ _ _ (sym (c .before .is-outside .ensures) ∙ c .if1 .taken))
     (λ c. element-beyond _ _ _ _ _ (sym (c .before .before .before .is-outside .ensures) ∙ c .before .before .if1 .left) (c .if2 .taken))
-    (λ c. omega (arith, within (c .before .before .before .before .before .before .before .args .s .now) (c .before .before .before .before .before .before .before .args .list .place) _ (c .before .before .before .before .is-outside .ensures) (c .before .before .before .if1 .left)))
+    (λ c.
+    let inside = c .before .before .before in
+    let start = inside .before .before .before .before in
+    omega (arith, within (start .args .s .now) (start .args .list .place) _ (inside .before .is-outside .ensures) (inside .if1 .left)))
     (λ c. search needs)
     (λ c. search needs)
-    (λ c. within (c .before .before .before .before .before .before .before .args .s .now) (c .before .before .before .before .before .before .before .args .list .place) _ (c .before .before .before .before .is-outside .ensures) (c .before .before .before .if1 .left))
-    (λ c κs. omega (arith, part-room (c .before .before .before .before .before .before .before .before .args .s .now) (c .before .before .before .before .before .before .before .before .args .list .place .at) (c .before .before .before .before .before .before .before .before .args .list .place .len) (within (c .before .before .before .before .before .before .before .before .args .s .now) (c .before .before .before .before .before .before .before .before .args .list .place) _ (c .before .before .before .before .before .is-outside .ensures) (c .before .before .before .before .if1 .left))))
-    (λ c. element-there _ _ _ _ _ (sym (c .before .before .before .before .before .before .is-outside .ensures) ∙ c .before .before .before .before .before .if1 .left) _ (c .before .before .before .if2 .left) (c .nth-element .ensures)))
+    (λ c.
+    let inside = c .before .before .before in
+    let start = inside .before .before .before .before in
+    within (start .args .s .now) (start .args .list .place) _ (inside .before .is-outside .ensures) (inside .if1 .left))
+    (λ c κs.
+    let inside = c .before .before .before .before in
+    let start = inside .before .before .before .before in
+    omega (arith, part-room (start .args .s .now) (start .args .list .place .at) (start .args .list .place .len) (within (start .args .s .now) (start .args .list .place) _ (inside .before .is-outside .ensures) (inside .if1 .left))))
+    (λ c.
+    let inside = c .before .before .before .before .before in
+    let start = inside .before .before .before .before in
+    element-there _ _ _ _ _ (sym (inside .before .is-outside .ensures) ∙ inside .if1 .left) _ (c .before .before .before .if2 .left) (c .nth-element .ensures)))

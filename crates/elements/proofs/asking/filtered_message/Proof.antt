@@ -18,4 +18,8 @@ filtered-message-spec =
     (λ c κs. search needs)
     (λ c κs. place-fits _ _ _ _ (c .before .before .before .before .before .before .before .pre) _ _ (c .string-field .ensures) (omega arith))
     (λ c κs. search needs)
-    (λ c. rw (c .before .before .before .before .before .nullable-from .ensures, c .before .before .place-from .ensures) at (c .answer .ensures) ∙ whole-element _ (link (c .before .before .before .before .before .before .before .before .u64-field .ensures) (link (c .before .before .before .before .before .before .nullable-field .ensures) (link (c .before .before .before .string-field .ensures) done)))))
+    (λ c.
+    let message = c .before .before .before in
+    let filter-value = message .before .before .before in
+    let publishing-id = filter-value .before .before in
+    rw (message .before .before .nullable-from .ensures, c .before .before .place-from .ensures) at (c .answer .ensures) ∙ whole-element _ (link (publishing-id .u64-field .ensures) (link (filter-value .nullable-field .ensures) (link (message .string-field .ensures) done)))))

@@ -15,4 +15,6 @@ name-spec =
     (λ c κs. search needs)
     (λ c κs. place-fits _ _ _ _ (c .before .before .pre) _ _ (c .string-field .ensures) (omega arith))
     (λ c κs. search needs)
-    (λ c. rw (c .before .before .place-from .ensures) at (c .answer .ensures) ∙ whole-element _ (link (c .before .before .before .string-field .ensures) done)))
+    (λ c.
+    let name = c .before .before .before in
+    rw (c .before .before .place-from .ensures) at (c .answer .ensures) ∙ whole-element _ (link (name .string-field .ensures) done)))

@@ -17,4 +17,7 @@ property-spec =
     (λ c κs. search needs)
     (λ c κs. place-fits _ _ _ _ (c .before .before .before .before .before .pre) _ _ (c .string-field2 .ensures) (omega arith))
     (λ c κs. search needs)
-    (λ c. rw (c .before .before .before .before .before .place-from .ensures, c .before .before .place-from2 .ensures) at (c .answer .ensures) ∙ whole-element _ (link (c .before .before .before .before .before .before .string-field .ensures) (link (c .before .before .before .string-field2 .ensures) done))))
+    (λ c.
+    let value = c .before .before .before in
+    let key = value .before .before .before in
+    rw (value .before .before .place-from .ensures, c .before .before .place-from2 .ensures) at (c .answer .ensures) ∙ whole-element _ (link (key .string-field .ensures) (link (value .string-field2 .ensures) done))))

@@ -13,4 +13,7 @@ publishing-error-spec =
     (λ c κs. search needs)
     (λ c κs. search needs)
     (λ c κs. search needs)
-    (λ c. c .answer .ensures ∙ whole-element _ (link (c .before .before .before .before .u64-field .ensures) (link (c .before .before .u16-field .ensures) done))))
+    (λ c.
+    let code = c .before .before in
+    let publishing-id = code .before .before in
+    c .answer .ensures ∙ whole-element _ (link (publishing-id .u64-field .ensures) (link (code .u16-field .ensures) done))))

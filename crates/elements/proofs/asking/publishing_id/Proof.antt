@@ -12,4 +12,6 @@ publishing-id-spec =
     (tie.spec
     (λ c κs. search needs)
     (λ c κs. search needs)
-    (λ c. c .answer .ensures ∙ whole-element _ (link (c .before .before .u64-field .ensures) done)))
+    (λ c.
+    let publishing-id = c .before .before in
+    c .answer .ensures ∙ whole-element _ (link (publishing-id .u64-field .ensures) done)))

@@ -19,4 +19,7 @@ statistic-spec =
     (λ c κs. place-fits _ _ _ _ (c .before .before .pre) _ _ (c .string-field .ensures) (omega arith))
     (λ c κs. search needs)
     (λ c κs. search needs)
-    (λ c. rw (c .before .before .before .before .before .place-from .ensures, toZ-ofZ {w = w64} (sfits-of (c .before .before .before .i64-field .ok .1 .1 .0 .1))) at (c .answer .ensures) ∙ whole-element _ (link (c .before .before .before .before .before .before .string-field .ensures) (link (c .before .before .before .i64-field .ensures) done))))
+    (λ c.
+    let value = c .before .before .before in
+    let key = value .before .before .before in
+    rw (value .before .before .place-from .ensures, toZ-ofZ {w = w64} (sfits-of (value .i64-field .ok .1 .1 .0 .1))) at (c .answer .ensures) ∙ whole-element _ (link (key .string-field .ensures) (link (value .i64-field .ensures) done))))

@@ -17,6 +17,14 @@ stream-metadata-spec =
     (λ c κs. search needs)
     (λ c κs. search needs)
     (λ c κs. search needs)
-    (λ c κs. list-fits _ _ _ _ (c .before .before .before .before .before .before .before .before .before .pre) _ _ (c .list-field .ensures) (omega (arith, c .before .before .u16-field2 .ok)))
+    (λ c κs.
+    let leader = c .before .before in
+    let start = leader .before .before .before .before .before .before .before in
+    list-fits _ _ _ _ (start .pre) _ _ (c .list-field .ensures) (omega (arith, leader .u16-field2 .ok)))
     (λ c κs. search needs)
-    (λ c. rw (c .before .before .before .before .before .before .before .before .before .place-from .ensures, c .before .before .list-from .ensures) at (c .answer .ensures) ∙ whole-element _ (link (c .before .before .before .before .before .before .before .before .before .before .string-field .ensures) (link (c .before .before .before .before .before .before .before .u16-field .ensures) (link (c .before .before .before .before .before .u16-field2 .ensures) (link (c .before .before .before .list-field .ensures) done))))))
+    (λ c.
+    let replicas = c .before .before .before in
+    let leader = replicas .before .before in
+    let code = leader .before .before in
+    let stream = code .before .before .before in
+    rw (code .before .before .place-from .ensures, c .before .before .list-from .ensures) at (c .answer .ensures) ∙ whole-element _ (link (stream .string-field .ensures) (link (code .u16-field .ensures) (link (leader .u16-field2 .ensures) (link (replicas .list-field .ensures) done))))))

@@ -16,5 +16,7 @@ message-spec =
     (λ c κs. search needs)
     (λ c. search needs)
     (λ c. search needs)
-    (λ c. c .part .ensures ∙ message-part _ 0 _ _ _ _ (ap placeAnswer (sym (c .before .before .place .given .1)) ∙ c .before .before .before .before .message-place .ensures))
+    (λ c.
+    let found = c .before .before in
+    message-part _ _ _ _ _ _ (c .part .ensures) (ap placeAnswer (sym (found .place .given .1)) ∙ found .before .before .message-place .ensures))
     (λ c. ap (messagePart _) (ap placeAnswer (sym (c .before .enum-told .given .1)) ∙ c .before .before .before .message-place .ensures)))

@@ -12,6 +12,12 @@ nth-message-spec =
     (λ c κs. search needs)
     (λ c κs. search needs)
     (λ c κs. search needs)
-    (λ c. nth-message-refused _ _ _ _ _ (c .before .before .before .before .before .within .ensures) (c .before .before .before .before .skip-entries .ensures) _ _ (c .before .before .before .read-entry .ensures) (c .if1 .taken))
-    (λ c. omega (arith, c .before .before .before .before .before .before .before .before .pre, nth-message-inside _ _ 0 _ _ (c .before .before .before .before .before .before .within .ensures) (c .before .before .before .before .before .skip-entries .ensures) _ _ (c .before .before .before .before .read-entry .ensures) (c .before .if1 .left)))
-    (λ c. nth-message-found _ _ _ _ _ (c .before .before .before .before .before .before .within .ensures) (c .before .before .before .before .before .skip-entries .ensures) _ _ (c .before .before .before .before .read-entry .ensures) (c .before .if1 .left)))
+    (λ c.
+    let entry = c .before .before .before in
+    nth-message-refused _ _ _ _ _ (entry .before .before .within .ensures) (entry .before .skip-entries .ensures) _ _ (entry .read-entry .ensures) (c .if1 .taken))
+    (λ c.
+    let entry = c .before .before .before .before in
+    omega (arith, entry .before .before .before .before .pre, nth-message-inside _ _ 0 _ _ (entry .before .before .within .ensures) (entry .before .skip-entries .ensures) _ _ (entry .read-entry .ensures) (c .before .if1 .left)))
+    (λ c.
+    let entry = c .before .before .before .before in
+    nth-message-found _ _ _ _ _ (entry .before .before .within .ensures) (entry .before .skip-entries .ensures) _ _ (entry .read-entry .ensures) (c .before .if1 .left)))

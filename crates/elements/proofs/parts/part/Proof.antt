@@ -13,8 +13,17 @@ part-spec =
     (λ c κs. search needs)
     (λ c. search needs)
     (λ c. rw (sym (c .before .before .is-outside .ensures) ∙ c .before .if1 .taken))
-    (λ c. omega (arith, within (c .before .before .before .before .args .s .now) (c .before .before .before .before .args .p) _ (c .before .before .is-outside .ensures) (c .before .if1 .left)))
+    (λ c.
+    let inside = c .before in
+    let start = inside .before .before .before in
+    omega (arith, within (start .args .s .now) (start .args .p) _ (inside .before .is-outside .ensures) (inside .if1 .left)))
     (λ c. search needs)
     (λ c. search needs)
-    (λ c. within (c .before .before .before .before .args .s .now) (c .before .before .before .before .args .p) _ (c .before .before .is-outside .ensures) (c .before .if1 .left))
-    (λ c. rw (sym (c .before .before .before .is-outside .ensures) ∙ c .before .before .if1 .left) (part-of (c .before .before .before .before .before .args .s .now) (c .before .before .before .before .before .args .p .at) (c .before .before .before .before .before .args .p .len))))
+    (λ c.
+    let inside = c .before in
+    let start = inside .before .before .before in
+    within (start .args .s .now) (start .args .p) _ (inside .before .is-outside .ensures) (inside .if1 .left))
+    (λ c.
+    let inside = c .before .before in
+    let start = inside .before .before .before in
+    rw (sym (inside .before .is-outside .ensures) ∙ inside .if1 .left) (part-of (start .args .s .now) (start .args .p .at) (start .args .p .len))))
