@@ -1,7 +1,7 @@
 -- A field comes back from its slots, whatever stands behind them, and so do the fields of a row, one behind another. Every
 -- case of the typed frame has the fields of its row. Assumes nothing.
 use mathlib.Core.Path.{_≡_, refl, _∙_, sym, ap, ap₂}
-use mathlib.Core.Bool.{Bool}
+use mathlib.Core.Bool.{Bool, true, false}
 use mathlib.Core.List.{List, [], _∷_, _++_, append-assoc}
 use mathlib.Core.Option.{Option, none, some}
 use Prim.Native.Nat.{ℕ, _-_}
@@ -25,9 +25,11 @@ use Rattle.flat.specs.Flat.{nullLength, flatPlace, flatOctets, flatOffse
 use Rattle.flat.specs.Unflat.{slot, unflatOctets, unflatOffset, unflatHeader, slotsOf, unflatField, unflatRow, unflatFrame, writeFlat}
 use Rattle.flat.specs.Inverse.{HeldOctets, HeldOffset, HeldHeader, Held, HeldRow, FlatInverse, FlatWrites}
 
-octets-back : (o : Option Place) (rest : List ℕ) → HeldOctets o → unflatOctets (slot (flatOctets o ++ rest) 0) (slot (flatOctets o ++ rest) 1) ≡ o
-octets-back none rest h = refl
-octets-back (some p) rest h = rw (ne-eqb (p .len) nullLength h)
+octets-back : (nullable : Bool) (o : Option Place) (rest : List ℕ) → HeldOctets nullable o → unflatOctets nullable (slot (flatOctets o ++ rest) 0) (slot (flatOctets o ++ rest) 1) ≡ o
+octets-back false none rest h = absurd h
+octets-back false (some p) rest h = refl
+octets-back true none rest h = refl
+octets-back true (some p) rest h = rw (ne-eqb (p .len) nullLength h)
 
 octets-behind : (o : Option Place) (rest : List ℕ) → drop 2 (flatOctets o ++ rest) ≡ rest
 octets-behind none rest = refl
@@ -56,7 +58,7 @@ header-back h rest k =
 field-back : (kind : Kind) (f : Field Place) (rest : List ℕ) → OfKind kind f → Held kind f → unflatField kind (flatField kind f ++ rest) ≡ f
 field-back (unsigned n most) f rest o h = sym o
 field-back (signed n) f rest o h = ap (λ (z : ℤ). integer z) (twos-complement 7 .signed-unsigned (f .integer) h) ∙ sym o
-field-back (string form nullable) f rest o h = ap (λ (x : Option Place). F.string x) (octets-back (f .octets) rest h) ∙ sym o
+field-back (string form nullable) f rest o h = ap (λ (x : Option Place). F.string x) (octets-back nullable (f .octets) rest h) ∙ sym o
 field-back (specification b) f rest o h = ap (λ (x : OffsetSpecification). F.offset x) (offset-back (f .offset) b rest h) ∙ sym o
 field-back (list row) f rest (p, e) h = rw e
 field-back chunk f rest (p, e) h = rw e (ap (λ (x : ChunkHeader). F.chunk x p) (header-back (f .header) (flatPlace p ++ rest) h))

@@ -1,5 +1,6 @@
 -- The flat form and the typed frame determine each other.
 use mathlib.Core.Path.{_≡_}
+use mathlib.Core.Bool.{Bool, true, false}
 use mathlib.Core.List.{List, [], _∷_}
 use mathlib.Core.Option.{Option, none, some}
 use Prim.Native.Nat.{ℕ}
@@ -17,11 +18,13 @@ use Rattle.rules.specs.Writing.{writeFrame}
 use Rattle.flat.specs.Flat.{nullLength, flatFrame}
 use Rattle.flat.specs.Unflat.{unflatFrame, writeFlat}
 
--- A field that slots can hold: signed numbers have 64 bits, and no place has the length that stands for null. No slice is
--- so long, so this leaves out no frame that could be written.
-abbrev pub HeldOctets : Option Place → Type 0
-HeldOctets none = Unit
-HeldOctets (some p) = p .len ≡ nullLength → ⊥
+-- A field that slots can hold: signed numbers have 64 bits, only what may be null is null, and no place of what may be
+-- null has the length that stands for it. No slice is so long, so this leaves out no frame that could be written.
+abbrev pub HeldOctets : Bool → Option Place → Type 0
+HeldOctets false none = ⊥
+HeldOctets false (some p) = Unit
+HeldOctets true none = Unit
+HeldOctets true (some p) = p .len ≡ nullLength → ⊥
 
 abbrev pub HeldOffset : OffsetSpecification → Type 0
 HeldOffset None = Unit
@@ -40,7 +43,7 @@ pub record HeldHeader (h : ChunkHeader) : Type 0 where
 abbrev pub Held : Kind → Field Place → Type 0
 Held (unsigned n most) f = Unit
 Held (signed n) f = two's.Signed 8 (f .integer)
-Held (string form nullable) f = HeldOctets (f .octets)
+Held (string form nullable) f = HeldOctets nullable (f .octets)
 Held (specification admitsNone) f = HeldOffset (f .offset)
 Held (list row) f = Unit
 Held chunk f = HeldHeader (f .header)

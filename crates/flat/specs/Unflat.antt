@@ -21,9 +21,10 @@ use Rattle.flat.specs.Flat.{nullLength}
 abbrev pub slot : List ℕ → ℕ → ℕ
 slot s i = getD s i 0
 
--- The place of a null is not looked at.
-abbrev pub unflatOctets : ℕ → ℕ → Option Place
-unflatOctets at len = cond (eqb len nullLength) none (some (place at len))
+-- The place of a null is not looked at. Where null is not admitted, its length is a length like any other, and too large.
+abbrev pub unflatOctets : Bool → ℕ → ℕ → Option Place
+unflatOctets false at len = some (place at len)
+unflatOctets true at len = cond (eqb len nullLength) none (some (place at len))
 
 -- No offset specification has a type above 5. It stands as one that its field does not admit: both are refused with 10.
 abbrev pub notAdmitted : Bool → OffsetSpecification
@@ -71,7 +72,7 @@ slotsOf chunk = 14
 abbrev pub unflatField : Kind → List ℕ → Field Place
 unflatField (unsigned n most) s = number (slot s 0)
 unflatField (signed n) s = integer (two's.signed 8 (slot s 0))
-unflatField (string form nullable) s = F.string (unflatOctets (slot s 0) (slot s 1))
+unflatField (string form nullable) s = F.string (unflatOctets nullable (slot s 0) (slot s 1))
 unflatField (specification admitsNone) s = F.offset (unflatOffset admitsNone (slot s 0) (slot s 1))
 unflatField (list row) s = elements (slot s 0) (place (slot s 1) (slot s 2))
 unflatField chunk s = F.chunk (unflatHeader s) (place (slot s 12) (slot s 13))

@@ -68,13 +68,31 @@ fn filtered_message(id: u64, filter: NullablePlace, p: Place) -> [u64; 8]
     ensures { λ r. ⌜ r ≡ padded 8 (id ∷ flatOctets (nullableField filter .octets) ++ flatPlace p) ⌝ }
 {
     let q = place_or_null(filter);
-    [id, q.at as u64, q.len as u64, p.at as u64, p.len as u64, 0, 0, 0]
+    [
+        id,
+        q.at as u64,
+        q.len as u64,
+        p.at as u64,
+        p.len as u64,
+        0,
+        0,
+        0,
+    ]
 }
 
 fn property(p: Place, q: Place) -> [u64; 8]
     ensures { λ r. ⌜ r ≡ padded 8 (flatPlace p ++ flatPlace q) ⌝ }
 {
-    [p.at as u64, p.len as u64, q.at as u64, q.len as u64, 0, 0, 0, 0]
+    [
+        p.at as u64,
+        p.len as u64,
+        q.at as u64,
+        q.len as u64,
+        0,
+        0,
+        0,
+        0,
+    ]
 }
 
 // The place of a message, or of a name.

@@ -4,6 +4,7 @@ ghost use mathlib.Core.Path.{_≡_};
 ghost use Prim.Native.Nat.{_<_};
 ghost use Rattle.krevilosh.specs.Answer.{answer};
 
+mod asking;
 mod changes;
 mod credits;
 mod publishers;
