@@ -1,18 +1,23 @@
 -- What comes next is told by reading alone, and reading looks at nothing beyond the declared size: so an answer other
 -- than that more bytes are needed stays the same, whatever follows. Assumes nothing.
-use mathlib.Core.Path.{_≡_, refl, sym, ap, subst}
+use mathlib.Core.Path.{_≡_, refl, sym, _∙_, ap, subst}
 use mathlib.Core.Bool.{Bool, true, false, cond}
-use mathlib.Core.List.{List, [], _∷_}
-use Prim.Native.Nat.{ℕ, _+_, _≤_}
-use lib.ListN.{length}
+use mathlib.Core.List.{List, [], _∷_, _++_}
+use mathlib.Core.Logic.{_⊎_, inl, inr}
+use Prim.Native.Nat.{ℕ, zero, suc, _+_, _<_, _≤_}
+use lib.ListN.{length, drop, length-append, length-drop}
+use lib.Seq.{take-append-le}
 use native.Mathlib.Omega.{arith}
+use Rattle.wire.proofs.Widths.{in-part}
 use Rattle.wire.specs.Integers.{bigEndian}
 use Rattle.protocol.specs.Fields.{Fields}
 use Rattle.protocol.specs.declared.place.Place.{Place}
 use Rattle.rules.proofs.Heads.{Head, head}
 use Rattle.rules.specs.Exactness.{frameLength}
 use Rattle.rules.specs.Reading.{Reading, frame, short, refusal, readFrame}
-use Rattle.captures.specs.Listing.{limit, Next, framed, whole, cut, refused, more, nextOf, following}
+use Rattle.captures.specs.Text.{joined}
+use Rattle.captures.specs.Listing.{limit, Next, framed, whole, cut, refused, more, nextOf, following, WindowTells, frameLine, linesFrom, lines, linesOf, LinesUnfold}
+use Rattle.rules.proofs.Beyond.{answer-stays}
 
 pub nothing-left : (s : List ℕ) (ended t : Bool) → length s ≡ 0 → ended ≡ t → cond t whole more ≡ following s ended
 unfolding following
@@ -32,3 +37,75 @@ frame-left s ended f size key version n e a b c =
     let g : framed (frameLength s) (f .key) (f .version) ≡ following s ended = something-left s ended ended (frame f) n e refl in
     let l : 8 ≤ length s = omega (arith, h .0, h .1) in
     rw (a l, b l, c l) (rw (h .2, h .3) at g)
+
+-- Four bytes say the same with more behind them.
+size-stays : (s rest : List ℕ) → 4 ≤ length s → frameLength (s ++ rest) ≡ frameLength s
+size-stays s rest l =
+    ap (λ (n : ℕ). n + 4)
+    (sym (in-part 4 4 0 (s ++ rest) 0 (omega arith)) ∙ (ap (λ (u : List ℕ). bigEndian 4 u 0) (take-append-le 4 s rest l) ∙ in-part 4 4 0 s 0 (omega arith)))
+
+tells : (s rest : List ℕ) → (length s ≡ 0 → ⊥) → (length (s ++ rest) ≡ 0 → ⊥) → (r : Reading) → r ≡ readFrame s limit → ((n : ℕ) × (readFrame s limit ≡ short n)) ⊎ (readFrame (s ++ rest) limit ≡ readFrame s limit) → (following s false ≡ more) ⊎ (following (s ++ rest) true ≡ following s false)
+tells s rest n m r e (inl x) = inl (sym (something-left s false false (short (x .0)) n (sym (x .1)) refl))
+tells s rest n m (frame f) e (inr y) =
+    let h : Head s (frame f) = subst (Head s) (sym e) (head s limit) in
+    let l : 4 ≤ length s = omega (arith, h .0, h .1) in
+    inr
+    (sym (something-left (s ++ rest) true true (frame f) m (e ∙ sym y) refl)
+    ∙ (ap (λ (t : ℕ). framed t (f .key) (f .version)) (size-stays s rest l) ∙ something-left s false false (frame f) n e refl))
+tells s rest n m (short k) e (inr y) = inl (sym (something-left s false false (short k) n e refl))
+tells s rest n m (refusal k p) e (inr y) =
+    inr (sym (something-left (s ++ rest) true true (refusal k p) m (e ∙ sym y) refl) ∙ something-left s false false (refusal k p) n e refl)
+
+pub window-tells : WindowTells
+unfolding following
+window-tells [] rest = inl refl
+window-tells (b ∷ s) rest =
+    tells (b ∷ s) rest (λ z. absurd (omega (arith, z))) (λ z. absurd (omega (arith, z, length-append (b ∷ s) rest))) (readFrame (b ∷ s) limit) refl (answer-stays (b ∷ s) rest limit)
+
+-- A frame that comes next is there, and has bytes.
+abbrev There : List ℕ → Next → Type 0
+There s (framed total key version) = (0 < total) × (total ≤ length s)
+There s whole = Unit
+There s (cut left needed) = Unit
+There s (refused n) = Unit
+There s more = Unit
+
+there : (s : List ℕ) (ended : Bool) → There s (following s ended)
+unfolding following
+there [] true = tt
+there [] false = tt
+there (b ∷ s) ended = by ended (readFrame (b ∷ s) limit) (head (b ∷ s) limit)
+  where
+    by : (ended : Bool) (r : Reading) → Head (b ∷ s) r → There (b ∷ s) (nextOf r ended (length (b ∷ s)) (frameLength (b ∷ s)))
+    by ended (frame f) h = (omega (arith, h .0), h .1)
+    by true (short n) h = tt
+    by false (short n) h = tt
+    by ended (refusal n p) h = tt
+
+pub framed-there : (s : List ℕ) (ended : Bool) (total key version : ℕ) → following s ended ≡ framed total key version → (0 < total) × (total ≤ length s)
+framed-there s ended total key version e = subst (There s) e (there s ended)
+
+same-lines : (x : Next) (o k : ℕ) (f g : ℕ → List ℕ) → ((t key v : ℕ) → x ≡ framed t key v → f t ≡ g t) → linesFrom x o k f ≡ linesFrom x o k g
+same-lines (framed t key v) o k f g h = ap (λ (l : List ℕ). joined (frameLine o t key v) ++ l) (h t key v refl)
+same-lines whole o k f g h = refl
+same-lines (cut left needed) o k f g h = refl
+same-lines (refused n) o k f g h = refl
+same-lines more o k f g h = refl
+
+shorter : (s : List ℕ) (t n : ℕ) → (0 < t) × (t ≤ length s) → length s < suc n → length (drop t s) < n
+shorter s t n a p = rw (length-drop t s) (omega (arith, a .0, a .1, p))
+
+-- More steps than there are bytes change nothing.
+enough : (m n : ℕ) (s : List ℕ) (o k : ℕ) → length s < m → length s < n → lines m s o k ≡ lines n s o k
+unfolding lines
+enough zero n s o k p q = absurd (omega (arith, p))
+enough (suc m) zero s o k p q = absurd (omega (arith, q))
+enough (suc m) (suc n) s o k p q =
+    same-lines (following s true) o k (λ (t : ℕ). lines m (drop t s) (o + t) (suc k)) (λ (t : ℕ). lines n (drop t s) (o + t) (suc k))
+    (λ t key v e. let a = framed-there s true t key v e in enough m n (drop t s) (o + t) (suc k) (shorter s t m a p) (shorter s t n a q))
+
+pub lines-unfold : LinesUnfold
+unfolding linesOf lines
+lines-unfold s o k =
+    same-lines (following s true) o k (λ (t : ℕ). lines (length s) (drop t s) (o + t) (suc k)) (λ (t : ℕ). linesOf (drop t s) (o + t) (suc k))
+    (λ t key v e. let a = framed-there s true t key v e in enough (length s) (suc (length (drop t s))) (drop t s) (o + t) (suc k) (shorter s t (length s) a (omega arith)) (omega arith))

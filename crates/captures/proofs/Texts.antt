@@ -2,18 +2,18 @@
 -- Assumes nothing.
 use mathlib.Core.Path.{_≡_, refl, sym, _∙_, ap}
 use mathlib.Core.Bool.{Bool, true, false, cond}
-use mathlib.Core.List.{List, [], _∷_}
+use mathlib.Core.List.{List, [], _∷_, _++_, append-assoc, append-nil}
 use Prim.Native.Nat.{ℕ, zero, suc, _+_, _-_, _*_, _/_, _^_, _<_, _≤_}
 use native.Mathlib.Nat.{pow-suc, pow-zero, div-lt-iff-lt-mul, le-div-iff-mul-le, one-le-pow, pow-le-pow-right}
 use native.Mathlib.Omega.{arith}
 use lib.Dec.{ltb}
-use lib.ListN.{length, take}
+use lib.ListN.{length, take, length-append}
 use lib.Seq.{take-length}
 use borrow.Author.Tests.{lt-ltb, le-ltb, ltb-true, ltb-false}
 use Rattle.io.specs.Digits.{digits, Fewest}
-use Rattle.wire.proofs.Splice.{copied-there}
-use Rattle.wire.specs.Buffer.{Holds, holds, put, copied}
-use Rattle.captures.specs.Text.{places, decimal, hex, puts}
+use Rattle.wire.proofs.Splice.{copied-there, put-fits, splice-none, splice-splice, length-splice}
+use Rattle.wire.specs.Buffer.{Holds, holds, put, copied, splice}
+use Rattle.captures.specs.Text.{places, decimal, hex, puts, joined}
 
 -- k more digits than one.
 places-of : (more n k : ℕ) → k ≤ more → n < 10 ^ suc k → (0 < k → 10 ^ k ≤ n) → places more n ≡ suc k
@@ -77,3 +77,54 @@ piece o at p ps o₁ at₁ h e f = f ∙ ap (λ (x : Holds). puts (x .bytes) (x 
 pub no-piece : (o : List ℕ) (at : ℕ) → holds o at ≡ puts o at []
 unfolding puts
 no-piece o at = refl
+
+pub pieces : (o : List ℕ) (at : ℕ) (ps qs : List (List ℕ)) (o₁ : List ℕ) (at₁ : ℕ) (h : Holds) → holds o₁ at₁ ≡ puts o at ps → h ≡ puts o₁ at₁ qs → h ≡ puts o at (ps ++ qs)
+unfolding puts
+pieces o at [] qs o₁ at₁ h e f = f ∙ ap (λ (x : Holds). puts (x .bytes) (x .next) qs) e
+pieces o at (p ∷ ps) qs o₁ at₁ h e f = pieces (put o at p .bytes) (put o at p .next) ps qs o₁ at₁ h e f
+
+pub joined-append : (ps qs : List (List ℕ)) → joined (ps ++ qs) ≡ joined ps ++ joined qs
+unfolding joined
+joined-append [] qs = refl
+joined-append (p ∷ ps) qs = rw (joined-append ps qs) (sym (append-assoc p (joined ps) (joined qs)))
+
+-- Pieces that have room are there as one text.
+pub puts-fit : (o : List ℕ) (at : ℕ) (ps : List (List ℕ)) → at + length (joined ps) ≤ length o → puts o at ps ≡ holds (splice o at (joined ps)) (at + length (joined ps))
+unfolding puts joined
+puts-fit o at [] h = let e : at + 0 ≡ at = omega arith in rw (e, ← splice-none o at)
+puts-fit o at (p ∷ ps) h =
+    let l : length (p ++ joined ps) ≡ length p + length (joined ps) = length-append p (joined ps) in
+    let a : at + length p ≤ length o = omega (arith, l, h) in
+    let b : at + length p + length (joined ps) ≤ length o = omega (arith, l, h) in
+    let c : at + length p + length (joined ps) ≤ length (splice o at p) = rw (length-splice o p at a) b in
+    let d : at + length p + length (joined ps) ≡ at + length (p ++ joined ps) = omega (arith, l) in
+    rw (put-fits o at p a, puts-fit (splice o at p) (at + length p) ps c, splice-splice o p (joined ps) at b, d)
+
+length-digits : (b k n : ℕ) → length (digits b k n) ≡ k
+length-digits b zero n = refl
+length-digits b (suc k) n = length-append (digits b k (n / b)) _ ∙ (let e : length (digits b k (n / b)) ≡ k = length-digits b k (n / b) in omega (arith, e))
+
+places-most : (more n : ℕ) → places more n ≤ suc more
+unfolding places
+places-most zero n = omega arith
+places-most (suc more) n = by (ltb n 10) (places-most more (n / 10))
+  where
+    by : (t : Bool) → places more (n / 10) ≤ suc more → cond t 1 (suc (places more (n / 10))) ≤ suc (suc more)
+    by true h = omega arith
+    by false h = omega (arith, h)
+
+pub decimal-most : (n : ℕ) → length (decimal n) ≤ 20
+unfolding decimal
+decimal-most n = rw (length-digits 10 (places 19 n) n) (places-most 19 n)
+
+pub hex-length : (n : ℕ) → length (hex n) ≡ 4
+unfolding hex
+hex-length n = length-digits 16 4 n
+
+pub piece-most : (p : List ℕ) (ps : List (List ℕ)) (m n : ℕ) → length p ≤ m → length (joined ps) ≤ n → length (joined (p ∷ ps)) ≤ m + n
+unfolding joined
+piece-most p ps m n h k = rw (length-append p (joined ps)) (omega (arith, h, k))
+
+pub no-piece-most : length (joined []) ≤ 0
+unfolding joined
+no-piece-most = omega arith

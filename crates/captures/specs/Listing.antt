@@ -2,6 +2,7 @@
 use mathlib.Core.Path.{_≡_}
 use mathlib.Core.Bool.{Bool, true, false, cond}
 use mathlib.Core.List.{List, [], _∷_, _++_}
+use mathlib.Core.Logic.{_⊎_}
 use Prim.Native.Nat.{ℕ, zero, suc, _+_}
 use lib.ListN.{length, drop}
 use Rattle.rules.specs.Exactness.{frameLength}
@@ -32,6 +33,10 @@ unfoldable pub following : List ℕ → Bool → Next
 following [] ended = cond ended whole more
 following (b ∷ s) ended = nextOf (readFrame (b ∷ s) limit) ended (length (b ∷ s)) (frameLength (b ∷ s))
 
+-- What comes next in a window is what comes next in the capture, unless more bytes are needed to tell.
+abbrev pub WindowTells : Type 0
+WindowTells = (w rest : List ℕ) → (following w false ≡ more) ⊎ (following (w ++ rest) true ≡ following w false)
+
 -- One line a frame: offset, total bytes, key as four lower-case hex digits, version.
 abbrev pub frameLine : ℕ → ℕ → ℕ → ℕ → List (List ℕ)
 frameLine offset total key version =
@@ -58,11 +63,19 @@ linesFrom (cut left needed) offset k behind = joined (cutLine offset left needed
 linesFrom (refused number) offset k behind = joined (refusedLine offset number) ++ joined (closingLine k (ascii " refused\n"))
 linesFrom more offset k behind = []
 
--- The lines of s, which is what is left of a capture. No frame is empty, so there are at most as many as bytes.
+-- At most so many lines of s, which is what is left of a capture.
 unfoldable pub lines : ℕ → List ℕ → ℕ → ℕ → List ℕ
 lines zero s offset k = []
 lines (suc most) s offset k = linesFrom (following s true) offset k (λ total. lines most (drop total s) (offset + total) (suc k))
 
+-- All lines of s. No frame is empty, so there are at most as many as bytes.
+unfoldable pub linesOf : List ℕ → ℕ → ℕ → List ℕ
+linesOf s offset k = lines (suc (length s)) s offset k
+
+-- They are the line of what comes next, and the lines of what is behind it.
+abbrev pub LinesUnfold : Type 0
+LinesUnfold = (s : List ℕ) (offset k : ℕ) → linesOf s offset k ≡ linesFrom (following s true) offset k (λ total. linesOf (drop total s) (offset + total) (suc k))
+
 -- All that is printed for a capture.
-unfoldable pub listing : List ℕ → List ℕ
-listing s = lines (suc (length s)) s 0 0
+abbrev pub listing : List ℕ → List ℕ
+listing s = linesOf s 0 0

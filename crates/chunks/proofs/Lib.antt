@@ -2,3 +2,4 @@
 pub mod Entries
 pub mod ChunkTypes
 pub mod Chunks
+pub mod ChunkWriting

@@ -5,6 +5,7 @@ mod entry;
 
 pub use chunk::ReadChunk;
 pub use chunk::chunk_field;
+pub use chunk::write_chunk;
 pub use chunk_type::has_entries;
 pub use chunk_type::is_chunk_type;
 pub use entry::ReadEntry;

@@ -6,7 +6,6 @@ use mathlib.Core.Option.{Option, none, some}
 use types.Run.{OneOf, miss}
 use denote.Enum.Declared.{tagOf}
 use Rattle.protocol.specs.Fields.{Fields}
-use Rattle.protocol.specs.Refusals.{noCredit}
 use Rattle.protocol.specs.declared.place.Place.{Place}
 use Rattle.rules.specs.Reading.{readFrame}
 use Rattle.rules.specs.Reading as rules
@@ -14,10 +13,10 @@ use Rattle.layouts.specs.Answer.{answerOf}
 use Rattle.layouts.specs.declared.reading.Reading.{Reading}
 use Rattle.layouts.specs.declared.reading.Reading.the-variants.{Frame, Short, Refused}
 use Rattle.layouts.proofs.reading.Reading.{the-type}
-use Rattle.ledger.specs.Calls.{take, answerBy}
+use Rattle.ledger.specs.Calls.{answerBy}
 use Rattle.ledger.specs.Rules.{refusal, entryAt, ledgerAt, answerTo, ledgerAfter}
 use Rattle.credit.specs.Calls.{received, frame, number, readAnswer, deliverId}
-use Rattle.credit.specs.Step.{answer, after, actOnReading}
+use Rattle.credit.specs.Step.{answer, after, actOnReading, spend}
 
 module _ (l s : List ℕ) (limit : ℕ) where
   -- A refusal of reading.
@@ -36,6 +35,6 @@ module _ (l s : List ℕ) (limit : ℕ) where
   no-deliver f e n = rw (← e, ← n) (refl, refl)
 
   pub deliver : (f : Fields Place) (i : ℕ) (o : Option ℕ) (l' : List ℕ) → rules.frame f ≡ readFrame s limit → some i ≡ deliverId f
-      → o ≡ refusal (take 1 noCredit) (entryAt l i) → l' ≡ ledgerAt l i (take 1 noCredit)
+      → o ≡ refusal spend (entryAt l i) → l' ≡ ledgerAt l i spend
       → (answerBy number o (frame f) ≡ answer l (received s limit)) × (l' ≡ after l (received s limit))
   deliver f i o l' e n p q = rw (← e, ← n) (ap (λ (x : Option ℕ). answerBy number x (frame f)) p, q)

@@ -28,11 +28,11 @@ pub data Refusal : Type 0 where
   short : ℕ → Refusal
   unread : ℕ → ℕ → Refusal
 
-abbrev pub Says : Type 0
-Says = Answer Yield Refusal
+abbrev pub Reply : Type 0
+Reply = Answer Yield Refusal
 
 -- An answer of reading as the answer of a call.
-abbrev pub readAnswer : rules.Reading → Says
+abbrev pub readAnswer : rules.Reading → Reply
 readAnswer (rules.frame f) = accepted (frame f)
 readAnswer (rules.short needed) = refused (short needed)
 readAnswer (rules.refusal n place) = refused (unread n place)

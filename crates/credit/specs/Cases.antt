@@ -11,11 +11,11 @@ use Rattle.rules.specs.Cases as rules
 use Rattle.ledger.specs.Calls.{accepted, refused}
 use Rattle.ledger.specs.Rules.{empty}
 use Rattle.ledger.specs.Demand3.{make}
-use Rattle.credit.specs.Calls.{Call, opening, grant, received, nothing, frame, number, Says}
+use Rattle.credit.specs.Calls.{Call, opening, grant, received, nothing, frame, number, Reply}
 use Rattle.credit.specs.Step.{credit}
 
 -- The answers to calls made one after another from an empty ledger.
-abbrev answers : List Call → List Says
+abbrev answers : List Call → List Reply
 answers calls = reverse (map (λ e. e .1) (make credit calls [] empty .0))
 
 -- A Deliver for id 5 of Size 53: version 1, a chunk without entries.
@@ -23,7 +23,7 @@ abbrev pub delivery : Call
 delivery = received (0x00 ∷ 0x00 ∷ 0x00 ∷ 0x35 ∷ 0x00 ∷ 0x08 ∷ 0x00 ∷ 0x01 ∷ 0x05 ∷ replicate 48 0x00) 0
 
 -- Accepted, with that frame handed back.
-abbrev pub yes : Says
+abbrev pub yes : Reply
 yes = accepted (frame (fieldsOf (Deliver 5 (record { header = noHeader; «data» = place 57 0 }))))
 
 pub record MarkedCases : Type 0 where

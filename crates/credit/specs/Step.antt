@@ -8,19 +8,23 @@ use Rattle.protocol.specs.declared.place.Place.{Place}
 use Rattle.rules.specs.Reading.{readFrame}
 use Rattle.rules.specs.Reading as rules
 use Rattle.layouts.specs.Answer.{answerOf}
-use Rattle.ledger.specs.Calls.{start, add, take, stop, Answer, refused, answerBy}
+use Rattle.ledger.specs.Calls.{Op, start, add, take, stop, Answer, refused, answerBy}
 use Rattle.ledger.specs.Rules.{Act, aside, at, Terms, answerTo, ledgerAfter}
 use Rattle.ledger.specs.Answers.{numberOf}
 use Rattle.ledger.specs.declared.Change.{Change}
-use Rattle.credit.specs.Calls.{Call, opening, grant, closing, received, Yield, nothing, frame, Refusal, number, Says, readAnswer, deliverId}
+use Rattle.credit.specs.Calls.{Call, opening, grant, closing, received, Yield, nothing, frame, Refusal, number, Reply, readAnswer, deliverId}
 use Rattle.credit.specs.declared.receiving.Received.{Received}
 use Rattle.credit.specs.declared.receiving.Received.the-variants.{Reading, Refused}
 use Rattle.credit.specs.declared.receiving.Subscription.{Subscription}
 use Rattle.credit.specs.declared.receiving.Subscription.the-variants.{Id, Nothing}
 
--- A frame that was read: a Deliver takes one from its id's balance (15 if there is none), any other takes nothing.
+-- What a Deliver asks of its id: to take one from the balance, 15 if there is none.
+abbrev pub spend : Op
+spend = take 1 noCredit
+
+-- A frame that was read: a Deliver spends, any other frame asks nothing of an id.
 abbrev pub actOnFrame : Option ℕ → Fields Place → Act Yield Refusal
-actOnFrame (some i) f = at i (take 1 noCredit) (frame f)
+actOnFrame (some i) f = at i spend (frame f)
 actOnFrame none f = aside (readAnswer (rules.frame f))
 
 abbrev pub actOnReading : rules.Reading → Act Yield Refusal
@@ -38,17 +42,17 @@ abbrev pub credit : Terms Call Yield Refusal
 credit = record { refusing = number; act = act }
 
 -- A call's answer, and the ledger after it.
-abbrev pub answer : List ℕ → Call → Says
+abbrev pub answer : List ℕ → Call → Reply
 answer l c = answerTo number l (act c)
 
 abbrev pub after : List ℕ → Call → List ℕ
 after l c = ledgerAfter l (act c)
 
 -- What the code's answers say.
-abbrev pub answerOfChange : Change → Says
+abbrev pub answerOfChange : Change → Reply
 answerOfChange r = answerBy number (numberOf r) nothing
 
-abbrev pub answerOfReceived : Received → Says
+abbrev pub answerOfReceived : Received → Reply
 answerOfReceived (Reading r) = readAnswer (answerOf r)
 answerOfReceived (Refused n) = refused (number n)
 

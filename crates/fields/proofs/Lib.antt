@@ -7,3 +7,6 @@ pub mod Chains
 pub mod Loops
 pub mod FixedWidth
 pub mod ListFields
+pub mod Steps
+pub mod Parts
+pub mod Encodings

@@ -65,7 +65,7 @@ most-small Text = lit≤ tt
 most-small Reference = lit≤ tt
 most-small Raw = lit≤ tt
 
-some-length : (form : Form) → 0 < 256 ^ lengthWidth form / 2
+pub some-length : (form : Form) → 0 < 256 ^ lengthWidth form / 2
 some-length Text = lit< tt
 some-length Reference = lit< tt
 some-length Raw = lit< tt

@@ -1,4 +1,5 @@
-// A reader for each kind of field, on a part of the caller's bytes and a cursor in it.
+// A reader for each kind of field, on a part of the caller's bytes and a cursor in it; and a writer for each kind that a
+// frame has.
 
 mod count;
 mod cursor;
@@ -7,13 +8,16 @@ mod fixed;
 mod list;
 mod number;
 mod offset;
+mod source;
 mod text;
+mod writer;
 
 pub use cursor::Cursor;
 pub use element::skip_element;
 pub use list::ReadList;
 pub use list::list_field;
 pub use list::skip_elements;
+pub use list::write_list;
 pub use number::ReadCode;
 pub use number::ReadFlag;
 pub use number::ReadI64;
@@ -30,9 +34,19 @@ pub use number::u8_field;
 pub use number::u16_field;
 pub use number::u32_field;
 pub use number::u64_field;
+pub use number::write_active;
+pub use number::write_u8;
+pub use number::write_u16;
+pub use number::write_u32;
+pub use number::write_u64;
 pub use offset::ReadOffset;
 pub use offset::offset_field;
+pub use offset::write_offset;
+pub use source::is_outside;
 pub use text::ReadNullable;
 pub use text::ReadPlace;
 pub use text::nullable_field;
 pub use text::string_field;
+pub use text::write_nullable;
+pub use text::write_string;
+pub use writer::Writer;

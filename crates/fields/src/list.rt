@@ -1,20 +1,26 @@
-// Lists: a count, then each element in turn.
+// Lists: a count, then each element in turn, read and written.
 ghost use mathlib.Core.Path.{_≡_};
 ghost use Rattle.protocol.specs.Frames.{listField};
 ghost use Rattle.protocol.specs.Kinds.{elementRow};
 ghost use Rattle.protocol.specs.Kinds as K;
 ghost use Rattle.rules.specs.Outcome.{repeated};
 ghost use Rattle.rules.specs.Reading.{readRow};
+ghost use Rattle.rules.specs.Writing.{writeList};
 ghost use Rattle.fields.specs.Cursor.{from, landed, Reads};
+ghost use Rattle.fields.specs.Writer.{state, measured, stepField};
 use crate::count::list_count;
 use crate::cursor::Cursor;
 use crate::element::skip_element;
 use crate::fixed::Fixed;
 use crate::fixed::element_width;
 use crate::fixed::fixed_end;
+use crate::source::is_outside;
+use crate::writer::Writer;
 use protocol::Element;
 use protocol::Elements;
 use protocol::Place;
+use protocol::refusal;
+use wire::Width;
 
 pub struct ReadList {
     pub value: Elements,
@@ -80,4 +86,47 @@ fn each_element(s: &[u8], start: Cursor, kind: Element, count: usize) -> Cursor
         i += 1;
     }
     c
+}
+
+// A list: its count, and the place of its encoded elements.
+pub fn write_list(w: Writer, src: &[u8], out: &mut [u8], kind: Element, list: Elements) -> Writer
+    ensures { λ r. ⌜ state r (now (out .exit)) ≡ stepField (K.list (elementRow kind)) (now (src .entry)) (listField list) (state w (now (out .entry))) ⌝ }
+{
+    if w.refused != 0 {
+        return w;
+    }
+    let count = list.count;
+    let place = list.place;
+    if !w.putting {
+        return measure_list(w, src, kind, count, place);
+    }
+    let at = w.at;
+    let from = place.at;
+    let len = place.len;
+    let behind = wire::put_number(out, at, Width::Four, count as u64);
+    Writer::at_place(wire::put_bytes(out, behind, src, from, len))
+}
+
+// The count (7), the place (6), then the elements as when read, and no bytes left (11).
+fn measure_list(w: Writer, src: &[u8], kind: Element, count: usize, place: Place) -> Writer
+    ensures { λ r. ⌜ r ≡ measured (writeList (elementRow kind) (now (src .entry)) count place) (w .at) ⌝ }
+{
+    let at = place.at;
+    let len = place.len;
+    if 0x7fff_ffff < count {
+        return w.refuse(refusal::BAD_LENGTH);
+    }
+    if is_outside(src, place) {
+        return w.refuse(refusal::FIELD_CUT);
+    }
+    let end = at + len;
+    let c = skip_elements(&src[at..end], Cursor::within(0), kind, count);
+    let number = c.refused;
+    if number != 0 {
+        return w.refuse(number);
+    }
+    if c.at < len {
+        return w.refuse(refusal::BYTES_LEFT);
+    }
+    w.count(4 + len)
 }

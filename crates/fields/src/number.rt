@@ -1,12 +1,16 @@
-// Numbers: u8, u16, u32, u64, i64, and Active.
+// Numbers: u8, u16, u32, u64, i64, and Active, read and written.
+ghost use mathlib.Core.List.{[]};
 ghost use mathlib.Core.Path.{_≡_};
+ghost use Prim.Native.Nat.{_^_, _<_};
 ghost use Rattle.protocol.specs.Fields.{number, integer};
 ghost use Rattle.protocol.specs.Frames.{codeField, flagField};
-ghost use Rattle.protocol.specs.Kinds.{u8, u16, u32, u64, i64, active, rc};
+ghost use Rattle.protocol.specs.Kinds.{unsigned, u8, u16, u32, u64, i64, active, rc};
 ghost use Rattle.rules.specs.Reading.{readNumber};
 ghost use Rattle.wire.specs.Integers.{widthOf};
 ghost use Rattle.fields.specs.Cursor.{from, landed, foundOr, Reads};
+ghost use Rattle.fields.specs.Writer.{state, stepField};
 use crate::cursor::Cursor;
+use crate::writer::Writer;
 use protocol::ResponseCode;
 use protocol::refusal;
 use wire::Number;
@@ -157,4 +161,55 @@ pub fn code_field(s: &[u8], c: Cursor) -> ReadCode
         value: ResponseCode::from_number(r.value),
         next: next,
     }
+}
+
+// c and every other unsigned number that fills its bytes: a value too wide for them gives 10.
+pub fn write_u8(w: Writer, out: &mut [u8], value: u64) -> Writer
+    ensures { λ r. ⌜ state r (now (out .exit)) ≡ stepField u8 [] (number value) (state w (now (out .entry))) ⌝ }
+{
+    write_unsigned(w, out, Width::One, 0xff, value)
+}
+
+pub fn write_u16(w: Writer, out: &mut [u8], value: u64) -> Writer
+    ensures { λ r. ⌜ state r (now (out .exit)) ≡ stepField u16 [] (number value) (state w (now (out .entry))) ⌝ }
+{
+    write_unsigned(w, out, Width::Two, 0xffff, value)
+}
+
+pub fn write_u32(w: Writer, out: &mut [u8], value: u64) -> Writer
+    ensures { λ r. ⌜ state r (now (out .exit)) ≡ stepField u32 [] (number value) (state w (now (out .entry))) ⌝ }
+{
+    write_unsigned(w, out, Width::Four, 0xffff_ffff, value)
+}
+
+pub fn write_u64(w: Writer, out: &mut [u8], value: u64) -> Writer
+    ensures { λ r. ⌜ state r (now (out .exit)) ≡ stepField u64 [] (number value) (state w (now (out .entry))) ⌝ }
+{
+    write_unsigned(w, out, Width::Eight, 0xffff_ffff_ffff_ffff, value)
+}
+
+// Active is 0 or 1.
+pub fn write_active(w: Writer, out: &mut [u8], value: u64) -> Writer
+    ensures { λ r. ⌜ state r (now (out .exit)) ≡ stepField active [] (number value) (state w (now (out .entry))) ⌝ }
+{
+    write_unsigned(w, out, Width::One, 1, value)
+}
+
+// A number up to the largest that is admitted (10).
+fn write_unsigned(w: Writer, out: &mut [u8], width: Width, most: u64, value: u64) -> Writer
+    requires { ⌜ most < 256 ^ widthOf width ⌝ }
+    ensures { λ r. ⌜ state r (now (out .exit)) ≡ stepField (unsigned (widthOf width) most) [] (number value) (state w (now (out .entry))) ⌝ }
+{
+    let at = w.at;
+    if w.refused != 0 {
+        return w;
+    }
+    if w.putting {
+        let behind = wire::put_number(out, at, width, value);
+        return Writer::at_place(behind);
+    }
+    if most < value {
+        return w.refuse(refusal::VALUE_NOT_ADMITTED);
+    }
+    w.count(width.bytes())
 }

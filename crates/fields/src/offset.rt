@@ -1,14 +1,20 @@
-// The offset specification.
+// The offset specification, read and written.
 ghost use Rattle.protocol.specs.Fields as F;
 ghost use Rattle.protocol.specs.Kinds.{specification};
-ghost use mathlib.Core.Bool.{not};
+ghost use mathlib.Core.Bool.{false, not};
+ghost use mathlib.Core.List.{[], _++_};
+ghost use mathlib.Core.Path.{_≡_};
+ghost use Rattle.wire.specs.Integers.{digits};
 ghost use Rattle.protocol.specs.Refusals.{valueNotAdmitted};
-ghost use Rattle.protocol.specs.declared.offset.OffsetSpecification.the-variants.{None};
+ghost use Rattle.protocol.specs.declared.offset.OffsetSpecification.the-variants.{None, Offset, Timestamp};
 ghost use Rattle.rules.specs.Outcome.{got, refuseIf};
 ghost use Rattle.rules.specs.Reading.{readOffset, readTimestamp};
+ghost use Rattle.rules.specs.Writing.{wrote};
 ghost use Rattle.fields.specs.Cursor.{from, OffsetRead, Reads};
+ghost use Rattle.fields.specs.Writer.{state, behind, step, stepField};
 use crate::cursor::Cursor;
 use crate::number::number_of;
+use crate::writer::Writer;
 use protocol::OffsetSpecification;
 use protocol::refusal;
 use wire::Width;
@@ -103,4 +109,79 @@ fn timestamp(s: &[u8], c: Cursor) -> ReadOffset
         value: OffsetSpecification::Timestamp(z),
         next: next,
     }
+}
+
+// The type, and the number behind types 4 and 5. Type 0 is admitted in ConsumerUpdate's response only (10).
+pub fn write_offset(
+    w: Writer,
+    out: &mut [u8],
+    admits_none: bool,
+    offset: OffsetSpecification,
+) -> Writer
+    ensures { λ r. ⌜ state r (now (out .exit)) ≡ stepField (specification «admits_none») [] (F.offset offset) (state w (now (out .entry))) ⌝ }
+{
+    match offset {
+        OffsetSpecification::None => write_none(w, out, admits_none),
+        OffsetSpecification::First => write_type(w, out, 1),
+        OffsetSpecification::Last => write_type(w, out, 2),
+        OffsetSpecification::Next => write_type(w, out, 3),
+        OffsetSpecification::Offset(x) => write_position(w, out, x),
+        OffsetSpecification::Timestamp(z) => write_timestamp(w, out, z),
+    }
+}
+
+fn write_none(w: Writer, out: &mut [u8], admitted: bool) -> Writer
+    ensures { λ r. ⌜ state r (now (out .exit)) ≡ stepField (specification admitted) [] (F.offset None) (state w (now (out .entry))) ⌝ }
+{
+    if w.refused != 0 {
+        return w;
+    }
+    if w.putting {
+        return write_type(w, out, 0);
+    }
+    if admitted {
+        return write_type(w, out, 0);
+    }
+    w.refuse(refusal::VALUE_NOT_ADMITTED)
+}
+
+fn write_position(w: Writer, out: &mut [u8], x: u64) -> Writer
+    ensures { λ r. ⌜ state r (now (out .exit)) ≡ stepField (specification false) [] (F.offset (Offset x)) (state w (now (out .entry))) ⌝ }
+{
+    write_numbered(w, out, 4, x)
+}
+
+fn write_timestamp(w: Writer, out: &mut [u8], z: i64) -> Writer
+    ensures { λ r. ⌜ state r (now (out .exit)) ≡ stepField (specification false) [] (F.offset (Timestamp z)) (state w (now (out .entry))) ⌝ }
+{
+    write_numbered(w, out, 5, wire::unsigned64(z))
+}
+
+// A type with nothing behind it.
+fn write_type(w: Writer, out: &mut [u8], kind: u64) -> Writer
+    ensures { λ r. ⌜ state r (now (out .exit)) ≡ step (wrote (digits 2 kind)) (behind (digits 2 kind)) (state w (now (out .entry))) ⌝ }
+{
+    if w.refused != 0 {
+        return w;
+    }
+    if !w.putting {
+        return w.count(2);
+    }
+    let at = w.at;
+    Writer::at_place(wire::put_number(out, at, Width::Two, kind))
+}
+
+// A type and eight bytes.
+fn write_numbered(w: Writer, out: &mut [u8], kind: u64, value: u64) -> Writer
+    ensures { λ r. ⌜ state r (now (out .exit)) ≡ step (wrote (digits 2 kind ++ digits 8 value)) (λ h. behind (digits 8 value) (behind (digits 2 kind) h)) (state w (now (out .entry))) ⌝ }
+{
+    if w.refused != 0 {
+        return w;
+    }
+    if !w.putting {
+        return w.count(10);
+    }
+    let at = w.at;
+    let next = wire::put_number(out, at, Width::Two, kind);
+    Writer::at_place(wire::put_number(out, next, Width::Eight, value))
 }

@@ -1,4 +1,6 @@
-// Byte strings: text T, references R and bytes B, and those that may be null.
+// Byte strings: text T, references R and bytes B, and those that may be null, read and written.
+ghost use mathlib.Core.List.{[]};
+ghost use mathlib.Core.Option.{some};
 ghost use mathlib.Core.Path.{_≡_};
 ghost use mathlib.Core.Bool.{true, false};
 ghost use Prim.Native.Nat.{_-_, _/_, _^_};
@@ -7,10 +9,15 @@ ghost use Rattle.protocol.specs.Frames.{nullableField, placeField};
 ghost use Rattle.protocol.specs.Kinds.{lengthWidth};
 ghost use Rattle.protocol.specs.Kinds as K;
 ghost use Rattle.rules.specs.Reading.{readString, readBody, tooLong, isText};
+ghost use Rattle.protocol.specs.declared.place.NullablePlace.the-variants.{Null};
+ghost use Rattle.rules.specs.Writing.{writeString};
 ghost use Rattle.wire.specs.Integers.{widthOf};
 ghost use Rattle.fields.specs.Cursor.{from, StringRead, Reads};
+ghost use Rattle.fields.specs.Writer.{state, measured, stepField};
 use crate::cursor::Cursor;
 use crate::number::number_of;
+use crate::source::is_outside;
+use crate::writer::Writer;
 use protocol::Form;
 use protocol::NullablePlace;
 use protocol::Place;
@@ -166,5 +173,85 @@ fn is_text(form: Form, b: &[u8]) -> bool
         Form::Text => wire::is_utf8(b),
         Form::Reference => wire::is_utf8(b),
         Form::Bytes => true,
+    }
+}
+
+// T?, R? and B?. Null is length -1, and has no place to look at.
+pub fn write_nullable(
+    w: Writer,
+    src: &[u8],
+    out: &mut [u8],
+    form: Form,
+    value: NullablePlace,
+) -> Writer
+    ensures { λ r. ⌜ state r (now (out .exit)) ≡ stepField (K.string form true) (now (src .entry)) (nullableField value) (state w (now (out .entry))) ⌝ }
+{
+    match value {
+        NullablePlace::Null => write_null(w, out, form),
+        NullablePlace::At(place) => write_string(w, src, out, form, place),
+    }
+}
+
+// T, R and B.
+pub fn write_string(w: Writer, src: &[u8], out: &mut [u8], form: Form, place: Place) -> Writer
+    ensures { λ r. ⌜ state r (now (out .exit)) ≡ stepField (K.string form false) (now (src .entry)) (placeField place) (state w (now (out .entry))) ⌝ }
+{
+    if w.refused != 0 {
+        return w;
+    }
+    if !w.putting {
+        return measure_string(w, src, form, place);
+    }
+    let at = w.at;
+    let from = place.at;
+    let len = place.len;
+    let behind = wire::put_number(out, at, length_width(form), len as u64);
+    Writer::at_place(wire::put_bytes(out, behind, src, from, len))
+}
+
+// The length (7), the reference limit (9), the place (6), UTF-8 (8).
+fn measure_string(w: Writer, src: &[u8], form: Form, place: Place) -> Writer
+    ensures { λ r. ⌜ r ≡ measured (writeString form false (now (src .entry)) (some place)) (w .at) ⌝ }
+{
+    let at = place.at;
+    let len = place.len;
+    if largest(form) < len as u64 {
+        return w.refuse(refusal::BAD_LENGTH);
+    }
+    if too_long(form, len) {
+        return w.refuse(refusal::REFERENCE_TOO_LONG);
+    }
+    if is_outside(src, place) {
+        return w.refuse(refusal::FIELD_CUT);
+    }
+    let end = at + len;
+    if !is_text(form, &src[at..end]) {
+        return w.refuse(refusal::NOT_UTF8);
+    }
+    w.count(length_width(form).bytes() + len)
+}
+
+fn write_null(w: Writer, out: &mut [u8], form: Form) -> Writer
+    ensures { λ r. ⌜ state r (now (out .exit)) ≡ stepField (K.string form true) [] (nullableField Null) (state w (now (out .entry))) ⌝ }
+{
+    if w.refused != 0 {
+        return w;
+    }
+    let width = length_width(form);
+    if !w.putting {
+        return w.count(width.bytes());
+    }
+    let at = w.at;
+    Writer::at_place(wire::put_number(out, at, width, minus_one(form)))
+}
+
+// The bits of length -1.
+fn minus_one(form: Form) -> u64
+    ensures { λ r. ⌜ r ≡ 256 ^ lengthWidth form - 1 ⌝ }
+{
+    match form {
+        Form::Text => 0xffff,
+        Form::Reference => 0xffff,
+        Form::Bytes => 0xffff_ffff,
     }
 }

@@ -1,2 +1,6 @@
 -- What is proved of whole frames.
 pub mod Sizes
+pub mod Passes
+pub mod FieldPasses
+pub mod Listed
+pub mod Writings

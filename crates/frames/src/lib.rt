@@ -1,5 +1,8 @@
 // Reading and writing whole frames.
 mod limit;
 mod reading;
+mod writing;
 
 pub use reading::read;
+pub use writing::Written;
+pub use writing::write;

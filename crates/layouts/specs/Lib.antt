@@ -1,2 +1,3 @@
 -- What the answers of reading stand for.
 pub mod Answer
+pub mod Content

@@ -13,7 +13,7 @@ use lib.ListN.{length, length-replicate}
 use lib.Dec.{leb, eqb}
 use Rattle.protocol.specs.Refusals.{notOpen, alreadyOpen, overLimit}
 use Rattle.ledger.specs.Calls.{Op, start, add, take, stop, Purpose, forNone, forId, Answer, accepted, refused, Accepted, answerBy}
-use Rattle.ledger.specs.Rules.{Entry, closed, opened, refusal, effect, empty, Sized, entryAt, store, keepOr, ledgerAt, Act, aside, at, Terms, answerTo, ledgerAfter, purposeOf}
+use Rattle.ledger.specs.Rules.{Entry, closed, opened, most, refusal, effect, empty, Sized, entryAt, store, keepOr, ledgerAt, Act, aside, at, Terms, answerTo, ledgerAfter, purposeOf}
 use Rattle.ledger.specs.History.{opening, added, taken, refusalBy, refusalIn, OpenWith, note, stays, Within, acceptedFor, strikeCalls, strike, AllWithin}
 use Rattle.ledger.specs.Demand3.{ledgerOf, history, make, answerIn, Demand3, Agree}
 use Rattle.ledger.proofs.Entries.{look-same, look-other, look-empty, length-store, own-entry}
@@ -70,7 +70,7 @@ same-refusal ops (add n) closed s = rw s
 same-refusal ops (add n) (opened b) s =
     rw (s .1)
     (ap (λ t. cond t none (some overLimit))
-    (same-test (b + n) 1000000 (s .0 + added ops + n) (1000000 + taken ops) (λ h. omega (arith, h, s .2)) (λ h. omega (arith, h, s .2))))
+    (same-test (b + n) most (s .0 + added ops + n) (1000000 + taken ops) (λ h. omega (arith, h, s .2)) (λ h. omega (arith, h, s .2))))
 same-refusal ops (take n k) closed s = rw s
 same-refusal ops (take n k) (opened b) s =
     rw (s .1)

@@ -10,7 +10,7 @@ use borrow.Author.Tests.{le-leb, lt-leb}
 use lib.ListN.{getD}
 use Rattle.protocol.specs.Refusals.{notOpen, alreadyOpen, overLimit}
 use Rattle.ledger.specs.Calls.{Op, start, add, take, stop}
-use Rattle.ledger.specs.Rules.{opened, refusal, effect, decode, entryAt, store, keepOr, ledgerAt}
+use Rattle.ledger.specs.Rules.{opened, most, refusal, effect, decode, entryAt, store, keepOr, ledgerAt}
 use Rattle.ledger.proofs.Entries.{decode-open}
 
 -- What a call has to show that refuses with n, and one that is accepted and stores the number v.
@@ -36,10 +36,10 @@ module _ (l : List ℕ) (i : ℕ) where
   pub add-closed : (n : ℕ) → getD l i 0 ≡ 0 → Refuses l i (add n) notOpen
   add-closed n e = refuses (add n) notOpen (rw e)
 
-  pub add-over : (n : ℕ) → (getD l i 0 ≡ 0 → ⊥) → 1000000 < getD l i 0 - 1 + n → Refuses l i (add n) overLimit
+  pub add-over : (n : ℕ) → (getD l i 0 ≡ 0 → ⊥) → most < getD l i 0 - 1 + n → Refuses l i (add n) overLimit
   add-over n h o = refuses (add n) overLimit (rw (decode-open _ h, lt-leb _ _ o))
 
-  pub add-fits : (n : ℕ) → (getD l i 0 ≡ 0 → ⊥) → getD l i 0 - 1 + n ≤ 1000000 → Stores l i (add n) (getD l i 0 + n)
+  pub add-fits : (n : ℕ) → (getD l i 0 ≡ 0 → ⊥) → getD l i 0 - 1 + n ≤ most → Stores l i (add n) (getD l i 0 + n)
   add-fits n h o =
       let q : getD l i 0 + n ≡ 0 → ⊥ = λ z. omega (arith, z, h) in
       stores (add n) (getD l i 0 + n) (rw (decode-open _ h, le-leb _ _ o))

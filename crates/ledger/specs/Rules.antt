@@ -15,12 +15,16 @@ pub data Entry : Type 0 where
   closed : Entry
   opened : ℕ → Entry
 
+-- The largest balance that a call can leave.
+abbrev pub most : ℕ
+most = 1000000
+
 -- The number that refuses what a call asks of an id, if there is one.
 abbrev pub refusal : Op → Entry → Option ℕ
 refusal (start c) closed = none
 refusal (start c) (opened b) = some alreadyOpen
 refusal (add n) closed = some notOpen
-refusal (add n) (opened b) = cond (leb (b + n) 1000000) none (some overLimit)
+refusal (add n) (opened b) = cond (leb (b + n) most) none (some overLimit)
 refusal (take n k) closed = some notOpen
 refusal (take n k) (opened b) = cond (leb n b) none (some k)
 refusal stop closed = some notOpen

@@ -14,9 +14,9 @@ use Rattle.ledger.specs.History.{refusalBy, acceptedFor, AllWithin, note}
 use Rattle.ledger.specs.History.{opening as openingOf}
 use Rattle.ledger.specs.Demand3.{history, Demand3, Agree}
 use Rattle.ledger.proofs.Demand3.{answer-if, demand3}
-use Rattle.publisher.specs.Calls.{Call, declaration, deletion, sending, confirming, Says}
+use Rattle.publisher.specs.Calls.{Call, declaration, deletion, sending, confirming, Reply}
 use Rattle.publisher.specs.Step.{publisher}
-use Rattle.publisher.specs.Demand3.{Story, purpose, declaration?, sent, confirmed, ruleDeclaration, ruleDeletion, ruleSending, ruleConfirming, PublisherDemand3}
+use Rattle.publisher.specs.Demand3.{History, purpose, declaration?, sent, confirmed, ruleDeclaration, ruleDeletion, ruleSending, ruleConfirming, PublisherDemand3}
 
 agree : Agree publisher purpose
 agree (declaration i) = refl
@@ -29,7 +29,7 @@ abbrev AtNone : Option ℕ → Type 0
 AtNone none = Unit
 AtNone (some k) = k ≡ 0
 
-at-none : (i : ℕ) (h : Story) → AtNone (declaration? i h)
+at-none : (i : ℕ) (h : History) → AtNone (declaration? i h)
 at-none i [] = tt
 at-none i (e ∷ h) = by (e .0) (e .1) (at-none i h)
   where
@@ -38,7 +38,7 @@ at-none i (e ∷ h) = by (e .0) (e .1) (at-none i h)
     kept true op k l = k
     kept false op k l = l
 
-    by : (c : Call) (a : Says) → AtNone (declaration? i h) → AtNone (openingOf (note i (purpose c) a (acceptedFor purpose i h)))
+    by : (c : Call) (a : Reply) → AtNone (declaration? i h) → AtNone (openingOf (note i (purpose c) a (acceptedFor purpose i h)))
     by (declaration j) (accepted y) l = kept (eqb j i) (start 0) refl l
     by (declaration j) (refused n) l = l
     by (deletion j) (accepted y) l = kept (eqb j i) stop tt l
@@ -68,19 +68,19 @@ out-is o c s b z = (
 )
 
 -- The rules by number are the rules by answer.
-declare-rule : (o : Option ℕ) (s c : ℕ) → _≡_ {A = Says} (answerBy (λ m. m) (refusalBy (start 0) o s c) tt) (ruleDeclaration o)
+declare-rule : (o : Option ℕ) (s c : ℕ) → _≡_ {A = Reply} (answerBy (λ m. m) (refusalBy (start 0) o s c) tt) (ruleDeclaration o)
 declare-rule none s c = refl
 declare-rule (some k) s c = refl
 
-delete-rule : (o : Option ℕ) (s c : ℕ) → _≡_ {A = Says} (answerBy (λ m. m) (refusalBy stop o s c) tt) (ruleDeletion o)
+delete-rule : (o : Option ℕ) (s c : ℕ) → _≡_ {A = Reply} (answerBy (λ m. m) (refusalBy stop o s c) tt) (ruleDeletion o)
 delete-rule none s c = refl
 delete-rule (some k) s c = refl
 
-send-rule : (n : ℕ) (o : Option ℕ) (s c : ℕ) → AtNone o → _≡_ {A = Says} (answerBy (λ m. m) (refusalBy (add n) o s c) tt) (ruleSending n o s c)
+send-rule : (n : ℕ) (o : Option ℕ) (s c : ℕ) → AtNone o → _≡_ {A = Reply} (answerBy (λ m. m) (refusalBy (add n) o s c) tt) (ruleSending n o s c)
 send-rule n none s c z = refl
 send-rule n (some k) s c z = let e : k + s + n ≡ s + n = omega (arith, z) in rw e (answer-if (λ m. m) (leb (s + n) (1000000 + c)) overLimit tt)
 
-confirm-rule : (n : ℕ) (o : Option ℕ) (s c : ℕ) → AtNone o → _≡_ {A = Says} (answerBy (λ m. m) (refusalBy (take n notOut) o s c) tt) (ruleConfirming n o s c)
+confirm-rule : (n : ℕ) (o : Option ℕ) (s c : ℕ) → AtNone o → _≡_ {A = Reply} (answerBy (λ m. m) (refusalBy (take n notOut) o s c) tt) (ruleConfirming n o s c)
 confirm-rule n none s c z = refl
 confirm-rule n (some k) s c z = let e : k + s ≡ s = omega (arith, z) in rw e (answer-if (λ m. m) (leb (c + n) s) notOut tt)
 

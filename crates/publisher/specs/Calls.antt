@@ -10,5 +10,5 @@ pub data Call : Type 0 where
   confirming : ℕ → ℕ → Call
 
 -- An accepted call hands back nothing, a refused one the number.
-abbrev pub Says : Type 0
-Says = Answer Unit ℕ
+abbrev pub Reply : Type 0
+Reply = Answer Unit ℕ

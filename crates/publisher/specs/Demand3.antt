@@ -10,14 +10,14 @@ use lib.Dec.{leb}
 use Rattle.protocol.specs.Refusals.{notOpen, alreadyOpen, overLimit, notOut}
 use Rattle.ledger.specs.Calls.{start, add, take, stop, Purpose, forId, accepted, refused, Accepted}
 use Rattle.ledger.specs.Rules.{closed, opened, empty, entryAt}
-use Rattle.ledger.specs.History as History
+use Rattle.ledger.specs.History as ledger
 use Rattle.ledger.specs.Demand3.{ledgerOf, history, make}
-use Rattle.publisher.specs.Calls.{Call, declaration, deletion, sending, confirming, Says}
+use Rattle.publisher.specs.Calls.{Call, declaration, deletion, sending, confirming, Reply}
 use Rattle.publisher.specs.Step.{publisher}
 
 -- A history: each call with its answer, the last one first.
-abbrev pub Story : Type 0
-Story = List (Call × Says)
+abbrev pub History : Type 0
+History = List (Call × Reply)
 
 -- For which id a call is, and what it counts for if it is accepted.
 abbrev pub purpose : Call → Purpose
@@ -27,36 +27,36 @@ purpose (sending i n) = forId i (add n)
 purpose (confirming i n) = forId i (take n notOut)
 
 -- The messages out when the id was last declared, which are none, if no deletion was accepted for it afterwards.
-abbrev pub declaration? : ℕ → Story → Option ℕ
-declaration? i h = History.opening (History.acceptedFor purpose i h)
+abbrev pub declaration? : ℕ → History → Option ℕ
+declaration? i h = ledger.opening (ledger.acceptedFor purpose i h)
 
 -- The messages sent for an id since the last declaration or deletion, and those confirmed or in error since.
-abbrev pub sent : ℕ → Story → ℕ
-sent i h = History.added (History.acceptedFor purpose i h)
+abbrev pub sent : ℕ → History → ℕ
+sent i h = ledger.added (ledger.acceptedFor purpose i h)
 
-abbrev pub confirmed : ℕ → Story → ℕ
-confirmed i h = History.taken (History.acceptedFor purpose i h)
+abbrev pub confirmed : ℕ → History → ℕ
+confirmed i h = ledger.taken (ledger.acceptedFor purpose i h)
 
 -- What the rules answer, by the declaration, the messages sent and those confirmed. Messages out are those sent less those
 -- confirmed; the sums are compared without forming the difference.
-abbrev pub ruleDeclaration : Option ℕ → Says
+abbrev pub ruleDeclaration : Option ℕ → Reply
 ruleDeclaration none = accepted tt
 ruleDeclaration (some k) = refused alreadyOpen
 
-abbrev pub ruleDeletion : Option ℕ → Says
+abbrev pub ruleDeletion : Option ℕ → Reply
 ruleDeletion none = refused notOpen
 ruleDeletion (some k) = accepted tt
 
-abbrev pub ruleSending : ℕ → Option ℕ → ℕ → ℕ → Says
+abbrev pub ruleSending : ℕ → Option ℕ → ℕ → ℕ → Reply
 ruleSending n none s c = refused notOpen
 ruleSending n (some k) s c = cond (leb (s + n) (1000000 + c)) (accepted tt) (refused overLimit)
 
-abbrev pub ruleConfirming : ℕ → Option ℕ → ℕ → ℕ → Says
+abbrev pub ruleConfirming : ℕ → Option ℕ → ℕ → ℕ → Reply
 ruleConfirming n none s c = refused notOpen
 ruleConfirming n (some k) s c = cond (leb (c + n) s) (accepted tt) (refused notOut)
 
 -- A call with its answer, somewhere in the history of a list of calls, and what came before it.
-abbrev pub Answered : List Call → Story → Call → Says → Story → Type 0
+abbrev pub Answered : List Call → History → Call → Reply → History → Type 0
 Answered cs later c a earlier = history publisher cs ≡ later ++ (c, a) ∷ earlier
 
 pub record PublisherDemand3 (cs : List Call) : Type 0 where
@@ -64,15 +64,15 @@ pub record PublisherDemand3 (cs : List Call) : Type 0 where
   pub made : (calls : List Call) → reverse calls ≡ cs → make publisher calls [] empty ≡ (history publisher cs, ledgerOf publisher cs)
   -- n messages are confirmed for an id exactly when the last declaration or deletion accepted for that id before was a
   -- declaration, and the messages sent for it since are at least those confirmed since and n.
-  pub confirmAccepted : (later earlier : Story) (i n : ℕ) (a : Says) → Answered cs later (confirming i n) a earlier
+  pub confirmAccepted : (later earlier : History) (i n : ℕ) (a : Reply) → Answered cs later (confirming i n) a earlier
       → Accepted a ↔ ((declaration? i earlier ≡ some 0) × (confirmed i earlier + n ≤ sent i earlier))
   -- Calls are refused exactly where the ledger rules give them a number, and with that number, open and messages out being
   -- taken from the same history.
-  pub declarations : (later earlier : Story) (i : ℕ) (a : Says) → Answered cs later (declaration i) a earlier → a ≡ ruleDeclaration (declaration? i earlier)
-  pub deletions : (later earlier : Story) (i : ℕ) (a : Says) → Answered cs later (deletion i) a earlier → a ≡ ruleDeletion (declaration? i earlier)
-  pub sendings : (later earlier : Story) (i n : ℕ) (a : Says) → Answered cs later (sending i n) a earlier
+  pub declarations : (later earlier : History) (i : ℕ) (a : Reply) → Answered cs later (declaration i) a earlier → a ≡ ruleDeclaration (declaration? i earlier)
+  pub deletions : (later earlier : History) (i : ℕ) (a : Reply) → Answered cs later (deletion i) a earlier → a ≡ ruleDeletion (declaration? i earlier)
+  pub sendings : (later earlier : History) (i n : ℕ) (a : Reply) → Answered cs later (sending i n) a earlier
       → a ≡ ruleSending n (declaration? i earlier) (sent i earlier) (confirmed i earlier)
-  pub confirmings : (later earlier : Story) (i n : ℕ) (a : Says) → Answered cs later (confirming i n) a earlier
+  pub confirmings : (later earlier : History) (i n : ℕ) (a : Reply) → Answered cs later (confirming i n) a earlier
       → a ≡ ruleConfirming n (declaration? i earlier) (sent i earlier) (confirmed i earlier)
   -- After the list each id in the ledger is open exactly if that history says so, and an open one has the messages out that
   -- it gives: these and those confirmed make up those sent.
@@ -80,4 +80,4 @@ pub record PublisherDemand3 (cs : List Call) : Type 0 where
   pub openAfter : (i b : ℕ) → i < 256 → (entryAt (ledgerOf publisher cs) i ≡ opened b)
       ↔ ((declaration? i (history publisher cs) ≡ some 0) × (b + confirmed i (history publisher cs) ≡ sent i (history publisher cs)))
   -- Without the calls for other ids, every call that is left gets the same answer.
-  pub alone : (i : ℕ) → i < 256 → history publisher (History.strikeCalls purpose i cs) ≡ History.strike purpose i (history publisher cs)
+  pub alone : (i : ℕ) → i < 256 → history publisher (ledger.strikeCalls purpose i cs) ≡ ledger.strike purpose i (history publisher cs)

@@ -6,7 +6,7 @@ use Rattle.ledger.specs.Calls.{start, add, take, stop, answerBy}
 use Rattle.ledger.specs.Rules.{Act, at, Terms, answerTo, ledgerAfter}
 use Rattle.ledger.specs.Answers.{numberOf}
 use Rattle.ledger.specs.declared.Change.{Change}
-use Rattle.publisher.specs.Calls.{Call, declaration, deletion, sending, confirming, Says}
+use Rattle.publisher.specs.Calls.{Call, declaration, deletion, sending, confirming, Reply}
 
 -- An id's balance is its messages out.
 abbrev pub act : Call → Act Unit ℕ
@@ -19,11 +19,11 @@ abbrev pub publisher : Terms Call Unit ℕ
 publisher = record { refusing = λ n. n; act = act }
 
 -- A call's answer, and the ledger after it.
-abbrev pub answer : List ℕ → Call → Says
+abbrev pub answer : List ℕ → Call → Reply
 answer l c = answerTo (λ n. n) l (act c)
 
 abbrev pub after : List ℕ → Call → List ℕ
 after l c = ledgerAfter l (act c)
 
-abbrev pub answerOf : Change → Says
+abbrev pub answerOf : Change → Reply
 answerOf r = answerBy (λ n. n) (numberOf r) tt

@@ -1,14 +1,16 @@
 -- Reading a frame looks at Size + 4 bytes and at no other: the first four, and then, once Size + 4 bytes are there, the
 -- key, the version and the content, which lie within them. So the frame's bytes alone are read as they are read with
--- more behind them, and fewer are refused with 1. Assumes nothing.
+-- more behind them, and fewer are refused with 1. The checks of Size alone answer alike, whatever follows.
+-- Assumes nothing.
 use mathlib.Core.Path.{_≡_, refl, sym, _∙_, ap}
 use mathlib.Core.Bool.{Bool, true, false, cond}
-use mathlib.Core.List.{List}
+use mathlib.Core.List.{List, _++_}
+use mathlib.Core.Logic.{_⊎_, inl, inr}
 use Prim.Native.Nat.{ℕ, _+_, _-_, _≤_}
 use native.Mathlib.Omega.{arith}
 use lib.Dec.{ltb}
-use lib.ListN.{length, take, drop, length-take}
-use lib.Seq.{length-take-le, take-take}
+use lib.ListN.{length, take, drop, length-take, length-append}
+use lib.Seq.{length-take-le, take-take, take-append-le}
 use borrow.Author.Tests.{lt-ltb, le-ltb, ltb-true, ltb-false}
 use Rattle.wire.specs.Integers.{bigEndian}
 use Rattle.wire.proofs.Widths.{in-part}
@@ -16,7 +18,7 @@ use Rattle.protocol.specs.Fields.{Fields}
 use Rattle.protocol.specs.declared.place.Place.{Place}
 use Rattle.rules.proofs.Gives.{frame-cases}
 use Rattle.rules.proofs.Parts.{drop-take}
-use Rattle.rules.specs.Exactness.{frameLength, NothingBeyond, CutIsRefused}
+use Rattle.rules.specs.Exactness.{frameLength, NothingBeyond, CutIsRefused, AnswerStays}
 use Rattle.rules.specs.Reading.{frame, short, overLimit, readSized, readFrame}
 
 -- A list's start is shorter than k exactly if the list is, if it may be as long.
@@ -81,3 +83,22 @@ cut-is-refused s limit n f e l = by (ltb n 4) refl
     by true q = rw (long, q)
     by false q =
         rw (long, q, in-part 4 n 0 s 0 (ltb-false n 4 q), passed .0, le-ltb size 4 (passed .1), lt-ltb n (frameLength s) l)
+
+pub answer-stays : AnswerStays
+unfolding readFrame readSized
+answer-stays s rest limit =
+    by (ltb (length s) (frameLength s)) refl (ltb (length s) 4) refl (overLimit limit (bigEndian 4 s 0)) refl (ltb (bigEndian 4 s 0) 4) refl
+  where
+    same : 4 ≤ length s → bigEndian 4 (s ++ rest) 0 ≡ bigEndian 4 s 0
+    same l =
+        sym (in-part 4 4 0 (s ++ rest) 0 (omega arith)) ∙ (ap (λ u. bigEndian 4 u 0) (take-append-le 4 s rest l) ∙ in-part 4 4 0 s 0 (omega arith))
+
+    four : 4 ≤ length s → ltb (length (s ++ rest)) 4 ≡ false
+    four l = le-ltb (length (s ++ rest)) 4 (rw (length-append s rest) (omega (arith, l)))
+
+    by : (w : Bool) → ltb (length s) (frameLength s) ≡ w → (c : Bool) → ltb (length s) 4 ≡ c → (o : Bool) → overLimit limit (bigEndian 4 s 0) ≡ o → (m : Bool) → ltb (bigEndian 4 s 0) 4 ≡ m → ((n : ℕ) × (readFrame s limit ≡ short n)) ⊎ (readFrame (s ++ rest) limit ≡ readFrame s limit)
+    by false p c q o x m y = inr (sym (nothing-beyond s (s ++ rest) limit (sym (take-append-le (frameLength s) s rest (ltb-false _ _ p)))))
+    by true p true q o x m y = inl (4, rw q)
+    by true p false q true x m y = let l = ltb-false (length s) 4 q in inr (rw (four l, same l, q, x))
+    by true p false q false x true y = let l = ltb-false (length s) 4 q in inr (rw (four l, same l, q, x, y))
+    by true p false q false x false y = inl (frameLength s, rw (q, x, y, p))

@@ -12,7 +12,7 @@ use lib.ListN.{length, take, drop}
 use borrow.Author.Tests.{ltb-false, ltb-true}
 use Rattle.wire.specs.Integers.{bigEndian}
 use Rattle.wire.specs.Signed as two's
-use Rattle.protocol.specs.Fields.{Field}
+use Rattle.protocol.specs.Fields.{Field, place}
 use Rattle.protocol.specs.Kinds.{lengthWidth, Kind, unsigned, signed, string, specification, list, chunk, Row, end, _·_}
 use Rattle.protocol.specs.declared.kind.Form.{Form}
 use Rattle.protocol.specs.declared.place.Place.{Place}
@@ -137,7 +137,7 @@ module _ (s : List ℕ) where
   bounded-entry at =
       behind 4 at _ (λ x next h i.
       check-here at (leb 0x8000_0000 x) 9 _ (λ _.
-      check-here at (ltb (length s) (next + x)) 5 _ (λ e.
+      check-here at (ltb (length s) (next + x)) 5 (got (place next x) (next + x)) (λ e.
       let l = ltb-false _ _ e in (omega (arith, h), λ k. l))))
 
   bounded-entries : (entries records at : ℕ) → at + 48 ≤ length s → Bounded at (readEntries entries records s at)
@@ -157,7 +157,7 @@ module _ (s : List ℕ) where
       check at (not (isChunkType type)) 9 (at + 1) _ (λ _ _. omega (arith, l)) (λ _.
       check at (ltb (length s) (at + 48 + len)) 5 (at + 48) _ (λ _ _. l) (λ _.
       check at (ltb (at + 48 + len) (length s)) 10 (at + 48 + len) _ (λ e _. less (ltb-true _ _ e)) (λ _.
-      choice at (hasEntries type) _ _ (bounded-entries entries records at l) (omega (arith, l), λ k. omega arith))))
+      choice at (hasEntries type) (readEntries entries records s at) (got tt (length s)) (bounded-entries entries records at l) (omega (arith, l), λ k. omega arith))))
     where
       less : {a b : ℕ} → a < b → a ≤ b
       less h = omega (arith, h)
@@ -189,7 +189,7 @@ pub bounded-content : (row : Row) (s : List ℕ) → Bounded s 0 (readContent ro
 unfolding readContent
 bounded-content row s =
     both s 0 (readRow row s 0) _ (bounded-row row s 0)
-    (λ fs last. check-here s last (ltb last (length s)) 10 _ (λ _. stay s last))
+    (λ fs last. check-here s last (ltb last (length s)) 10 (got fs last) (λ _. stay s last))
 
 pub numbered-field : (k : Kind) (s : List ℕ) (at : ℕ) → Numbered (readField k s at)
 numbered-field k s at = numbered s at (readField k s at) (bounded-field k s at)

@@ -1,6 +1,6 @@
 -- A number is read exactly if its bytes are there, and is then below 256 ^ n, so that no value of a whole width is
 -- refused. Assumes nothing.
-use mathlib.Core.Path.{_≡_, refl}
+use mathlib.Core.Path.{_≡_, ap, refl}
 use mathlib.Core.Bool.{Bool, true, false}
 use mathlib.Core.List.{List}
 use lib.Dec.{ltb}
@@ -19,11 +19,11 @@ use Rattle.rules.specs.Reading.{readNumber, readUnsigned}
 module _ (n : ℕ) (s : List ℕ) (at : ℕ) where
   pub number-there : at + n ≤ length s → readNumber n s at ≡ got (bigEndian n s at) (at + n)
   unfolding readNumber
-  number-there h = rw (le-ltb _ _ h)
+  number-there h = ap (λ t. refuseIf t fieldCut at (got (bigEndian n s at) (at + n))) (le-ltb (length s) (at + n) h)
 
   pub number-cut : length s < at + n → readNumber n s at ≡ refused fieldCut at
   unfolding readNumber
-  number-cut h = rw (lt-ltb _ _ h)
+  number-cut h = ap (λ t. refuseIf t fieldCut at (got (bigEndian n s at) (at + n))) (lt-ltb (length s) (at + n) h)
 
   -- By whether the bytes are there.
   pub number-cases : (P : Outcome ℕ → Type 0) → (at + n ≤ length s → P (got (bigEndian n s at) (at + n))) → (length s < at + n → P (refused fieldCut at)) → P (readNumber n s at)

@@ -61,7 +61,7 @@ module _ (s : List ℕ) (b : Bytes s) where
   sound-unsigned n most at =
       after-number (Sound (unsigned n most) at) n s at _ (λ h.
       check (Sound (unsigned n most) at) (ltb most (bigEndian n s at)) 10 at _ (λ e.
-      ((refl, ltb-false _ _ e, integers n .range s at b), number-part s n at b h)))
+      ((refl, ltb-false most (bigEndian n s at) e, integers n .range s at b), number-part s n at b h)))
 
   pub sound-signed : (n at : ℕ) → Gives (Sound (signed (suc n)) at) (readSigned (suc n) s at)
   unfolding readSigned Valid

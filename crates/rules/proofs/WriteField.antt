@@ -6,7 +6,7 @@ use mathlib.Core.Bool.{Bool, true, false, cond, not, _&&_, _||_}
 use mathlib.Core.List.{List, [], _∷_, _++_, append-nil, map, head-eq-of-cons-eq, tail-eq-of-cons-eq}
 use mathlib.Core.Logic.{inl, inr}
 use mathlib.Core.Option.{Option, none, some, Option·map}
-use Prim.Native.Nat.{ℕ, _+_, _-_, _/_, _^_, _≤_, _<_}
+use Prim.Native.Nat.{ℕ, _+_, _/_, _^_, _≤_, _<_}
 use native.Mathlib.Omega.{arith}
 use lib.Dec.{eqb, ltb, leb}
 use lib.IntN.{ℤ, pos, negsuc}
@@ -14,8 +14,8 @@ use lib.ListN.{length}
 use borrow.Author.Tests.{lt-ltb, le-ltb, lt-leb, eq-eqb, ltb-true, ltb-false, leb-false, eqb-true, not-false}
 use Rattle.wire.specs.Integers.{Bytes, digits}
 use Rattle.wire.specs.Signed as two's
-use Rattle.protocol.specs.Fields.{Field, number, integer, elements, bytesAt, outside, valueIn, EndsBy, PlacesEndBy}
-use Rattle.protocol.specs.Fields as F
+use Rattle.protocol.specs.Fields.{Field, bytesAt, outside, valueIn, EndsBy, PlacesEndBy}
+use Rattle.protocol.specs.Frames.{OfKind, OfRow}
 use Rattle.protocol.specs.Kinds.{lengthWidth, Kind, unsigned, signed, string, specification, list, chunk, Row, end, _·_}
 use Rattle.protocol.specs.Refusals.{fieldCut, badLength, notUtf8, referenceTooLong, valueNotAdmitted, bytesLeft}
 use Rattle.protocol.specs.declared.chunk.ChunkHeader.{ChunkHeader}
@@ -70,7 +70,7 @@ writes-string form nullable src (some p) i v =
 
 writes-offset : (admitsNone : Bool) (o : OffsetSpecification) → ValidOffset admitsNone o → writeOffset admitsNone o ≡ wrote (encodeOffset o)
 unfolding writeOffset
-writes-offset admitsNone None v = rw v
+writes-offset admitsNone None v = ap (λ t. checked (not t) valueNotAdmitted (wrote (digits 2 0))) v
 writes-offset admitsNone First v = refl
 writes-offset admitsNone Last v = refl
 writes-offset admitsNone Next v = refl
@@ -80,7 +80,7 @@ writes-offset admitsNone (Timestamp z) v = rw (signed-fits 8 z v)
 -- Pieces that are read up to the part's end use it up.
 uses-up : {A : Type 0} (P : List ℕ → Type 0) (element : List ℕ → ℕ → Outcome A) (part : List ℕ) → PieceRead part P element → (n : ℕ) → Pieces P n part → (r : Encoding) → usedUp (repeated element n part 0) part r ≡ r
 uses-up P element part each n pieces r =
-    rw (pieces-read part P element each n part 0 (length part) pieces (starting part part [] (sym (append-nil part))), le-ltb (length part) (length part) (omega arith))
+    simp (pieces-read part P element each n part 0 (length part) pieces (starting part part [] (sym (append-nil part))), le-ltb (length part) (length part) (omega arith))
 
 -- The place of a list or a chunk, from its bytes.
 placed : (src : List ℕ) (o : Option Place) (b : List ℕ) → Option·map (bytesAt src) o ≡ some b → EndsBy (length src) o → (bytesAt src (placeOf o) ≡ b) × (placeOf o .at + placeOf o .len ≤ length src) × (body (Option·map (bytesAt src) o) ≡ bytesAt src (placeOf o))
@@ -178,15 +178,6 @@ fits-signed n (negsuc x) e = ltb-true x (256 ^ n / 2) e
 pub neither : (a b : Bool) → (a || b) ≡ false → (a ≡ false) × (b ≡ false)
 neither true b e = absurd (differ (sym e))
 neither false b e = (refl, e)
-
--- A field of a kind, as its maker builds it.
-abbrev pub Formed : Kind → Field Place → Type 0
-Formed (unsigned n most) f = f ≡ number (f .number)
-Formed (signed n) f = f ≡ integer (f .integer)
-Formed (string form nullable) f = f ≡ F.string (f .octets)
-Formed (specification admitsNone) f = f ≡ F.offset (f .offset)
-Formed (list row) f = (p : Place) × (f ≡ elements (f .number) p)
-Formed chunk f = (p : Place) × (f ≡ F.chunk (f .header) p)
 
 written-unsigned : (n most x : ℕ) (b : List ℕ) → writeUnsigned n most x ≡ wrote b → (x ≤ most) × (x < 256 ^ n) × (b ≡ digits n x)
 written-unsigned n most x b e =
@@ -325,7 +316,7 @@ written-chunk src bytes h p b e =
 abbrev pub Written : List ℕ → Kind → Field Place → List ℕ → Type 0
 Written src k f b = EndsBy (length src) (f .octets) × Valid k (valueIn src f) × (b ≡ encode k (valueIn src f))
 
-pub written-field : (k : Kind) (src : List ℕ) → Bytes src → (f : Field Place) (b : List ℕ) → wide k ≡ true → Formed k f → writeField k src f ≡ wrote b → Written src k f b
+pub written-field : (k : Kind) (src : List ℕ) → Bytes src → (f : Field Place) (b : List ℕ) → wide k ≡ true → OfKind k f → writeField k src f ≡ wrote b → Written src k f b
 unfolding Valid
 written-field (unsigned n most) src bytes f b w e h =
     let t = written-unsigned n most (f .number) b h in
@@ -348,19 +339,12 @@ written-field chunk src bytes f b w (p, e) h =
     let t = written-chunk src bytes (f .header) p b (ap (λ q. writeChunk src (f .header) (placeOf q)) (sym o) ∙ h) in
     (rw o (t .0), (bytesAt src p, ap (valueIn src) e, t .1), rw o (t .2))
 
--- As many fields as a row has, each of its kind.
-abbrev pub FormedRow : Row → List (Field Place) → Type 0
-FormedRow end [] = Unit
-FormedRow end (f ∷ fs) = ⊥
-FormedRow (k · row) [] = ⊥
-FormedRow (k · row) (f ∷ fs) = Formed k f × FormedRow row fs
-
 both-written : (a c : Encoding) (b : List ℕ) → followed a c ≡ wrote b → (x : List ℕ) × (y : List ℕ) × (a ≡ wrote x) × (c ≡ wrote y) × (b ≡ x ++ y)
 both-written (wrote x) (wrote y) b e = (x, y, refl, refl, same-bytes (x ++ y) b e)
 both-written (wrote x) (refuse n) b e = absurd (let z : _≡_ {A = ℕ} 0 1 = cc in omega arith)
 both-written (refuse n) c b e = absurd (let z : _≡_ {A = ℕ} 0 1 = cc in omega arith)
 
-pub written-row : (row : Row) (src : List ℕ) → Bytes src → (fs : List (Field Place)) (b : List ℕ) → wideRow row ≡ true → FormedRow row fs → writeRow row src fs ≡ wrote b → PlacesEndBy (length src) fs × ValidRow row (map (valueIn src) fs) × (b ≡ encodeRow row (map (valueIn src) fs))
+pub written-row : (row : Row) (src : List ℕ) → Bytes src → (fs : List (Field Place)) (b : List ℕ) → wideRow row ≡ true → OfRow row fs → writeRow row src fs ≡ wrote b → PlacesEndBy (length src) fs × ValidRow row (map (valueIn src) fs) × (b ≡ encodeRow row (map (valueIn src) fs))
 unfolding ValidRow
 written-row end src bytes [] b w h e = (tt, refl, same-bytes [] b e)
 written-row end src bytes (f ∷ fs) b w h e = absurd h

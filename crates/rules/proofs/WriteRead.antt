@@ -6,21 +6,29 @@ use mathlib.Core.List.{List, _++_}
 use Prim.Native.Nat.{ℕ, _+_, _^_, _≤_, _<_}
 use native.Mathlib.Omega.{arith}
 use lib.Dec.{ltb}
-use lib.ListN.{length as len, drop}
+use lib.ListN.{length as len, take, drop}
+use lib.Seq.{drop-at}
 use borrow.Author.Tests.{ltb-false}
 use Rattle.wire.specs.Buffer.{splice}
 use Rattle.wire.specs.Integers.{Bytes, digits}
+use Rattle.wire.proofs.Splice.{length-splice}
 use Rattle.protocol.specs.Decision.{Decision, layout, unlistedKey, unlistedVersion, decide}
 use Rattle.protocol.specs.Fields.{Fields, valuesIn, PlacesEndBy}
+use Rattle.protocol.specs.Frames.{fieldsOf, valuesOf, OfRow}
 use Rattle.protocol.specs.Refusals.{frameTooLarge, noRoom, unknownKey, unknownVersion}
 use Rattle.protocol.specs.Table.{rowOf}
+use Rattle.protocol.specs.declared.frame.Frame.{Frame}
 use Rattle.protocol.specs.declared.place.Place.{Place}
+use Rattle.protocol.proofs.FrameRows.{of-table}
+use Rattle.rules.specs.Exactness.{Starts, frameLength}
 use Rattle.rules.specs.Grammar.{sizeOf, encodeFrame, ValidFrame}
-use Rattle.rules.specs.Reading.{frame, overLimit, readFrame}
+use Rattle.rules.specs.Reading.{overLimit}
+use Rattle.rules.specs.RoundTrips.{WroteAndReads, WriteThenRead, RefusedWriteTouchesNothing}
 use Rattle.rules.specs.Writing.{Encoding, wrote, refuse, length, refusal, Writing, unwritten, writeRow, writeEncoded, writeDecided, writeFrame}
 use Rattle.rules.proofs.Complete.{complete}
 use Rattle.rules.proofs.Listed.{itself, wide-row}
-use Rattle.rules.proofs.WriteField.{FormedRow, neither, written-row}
+use Rattle.rules.proofs.ReadWrite.{splice-start, size-read, encoded-length, encoded-bytes}
+use Rattle.rules.proofs.WriteField.{neither, written-row}
 
 -- What an encoded content passed, and what the output then holds.
 record Passed (k v limit : ℕ) (out c : List ℕ) (n : ℕ) (w : Writing) : Type 0 where
@@ -36,6 +44,19 @@ same-length n m e = cc
 
 no-length : (m n : ℕ) → refusal m ≡ length n → ⊥
 no-length m n e = let z : _≡_ {A = ℕ} 0 1 = cc in omega arith
+
+-- A refusal behind the fields leaves the output as it was.
+refused-encoding : (k v : ℕ) (x : Encoding) (limit : ℕ) (out : List ℕ) (n : ℕ) → writeEncoded k v x limit out .answer ≡ refusal n → writeEncoded k v x limit out .out ≡ out
+refused-encoding k v (refuse m) limit out n e = refl
+refused-encoding k v (wrote c) limit out n e = by (ltb 0xffff_ffff (4 + len c) || overLimit limit (4 + len c)) (ltb (len out) (8 + len c)) e
+  where
+    w : Writing
+    w = record { answer = length (8 + len c); out = splice out 0 (digits 4 (4 + len c) ++ (digits 2 k ++ (digits 2 v ++ c))) }
+
+    by : (t u : Bool) → cond t (unwritten frameTooLarge out) (cond u (unwritten noRoom out) w) .answer ≡ refusal n → cond t (unwritten frameTooLarge out) (cond u (unwritten noRoom out) w) .out ≡ out
+    by true u e = refl
+    by false true e = refl
+    by false false e = absurd (no-length n (8 + len c) (sym e))
 
 encoded-passed : (k v limit : ℕ) (out c : List ℕ) (n : ℕ) → writeEncoded k v (wrote c) limit out .answer ≡ length n → Passed k v limit out c n (writeEncoded k v (wrote c) limit out)
 encoded-passed k v limit out c n = by (ltb 0xffff_ffff (4 + len c) || overLimit limit (4 + len c)) refl (ltb (len out) (8 + len c)) refl
@@ -53,15 +74,15 @@ encoded-passed k v limit out c n = by (ltb 0xffff_ffff (4 + len c) || overLimit 
 
 module _ (f : Fields Place) (src : List ℕ) (limit : ℕ) (out : List ℕ) where
   -- What a frame that was written passed, and what the output then holds.
-  pub record WrittenFrame (n : ℕ) (w : Writing) : Type 0 where
+  pub record WrittenFrame (n : ℕ) (after : List ℕ) : Type 0 where
     pub valid : ValidFrame (valuesIn src f)
     pub places : PlacesEndBy (len src) (f .content)
     pub within : overLimit limit (sizeOf (valuesIn src f)) ≡ false
     pub answer : n ≡ 4 + sizeOf (valuesIn src f)
     pub room : n ≤ len out
-    pub holds : w .out ≡ splice out 0 (encodeFrame (valuesIn src f))
+    pub holds : after ≡ splice out 0 (encodeFrame (valuesIn src f))
 
-  content-written : (n : ℕ) (x : Encoding) → Bytes src → FormedRow (rowOf (f .key) (f .version)) (f .content) → decide (f .key) (f .version) ≡ layout (f .key) (f .version) → writeRow (rowOf (f .key) (f .version)) src (f .content) ≡ x → writeEncoded (f .key) (f .version) x limit out .answer ≡ length n → WrittenFrame n (writeEncoded (f .key) (f .version) x limit out)
+  content-written : (n : ℕ) (x : Encoding) → Bytes src → OfRow (rowOf (f .key) (f .version)) (f .content) → decide (f .key) (f .version) ≡ layout (f .key) (f .version) → writeRow (rowOf (f .key) (f .version)) src (f .content) ≡ x → writeEncoded (f .key) (f .version) x limit out .answer ≡ length n → WrittenFrame n (writeEncoded (f .key) (f .version) x limit out .out)
   content-written n (refuse m) b g d h e = absurd (no-length m n e)
   content-written n (wrote c) b g d h e =
       let r = written-row (rowOf (f .key) (f .version)) src b (f .content) c (wide-row (f .key) (f .version)) g h in
@@ -76,23 +97,58 @@ module _ (f : Fields Place) (src : List ℕ) (limit : ℕ) (out : List ℕ) wher
         holds = p .holds ∙ ap (λ t. splice out 0 (digits 4 (4 + len t) ++ (digits 2 (f .key) ++ (digits 2 (f .version) ++ t)))) (r .2);
       }
 
-  pub written-frame : (n : ℕ) → Bytes src → FormedRow (rowOf (f .key) (f .version)) (f .content) → writeFrame f src limit out .answer ≡ length n → WrittenFrame n (writeFrame f src limit out)
+  pub written-frame : (n : ℕ) → Bytes src → OfRow (rowOf (f .key) (f .version)) (f .content) → writeFrame f src limit out .answer ≡ length n → WrittenFrame n (writeFrame f src limit out .out)
   unfolding writeFrame
   written-frame n b g = by (decide (f .key) (f .version)) refl
     where
-      by : (d : Decision) → decide (f .key) (f .version) ≡ d → writeDecided d f src limit out .answer ≡ length n → WrittenFrame n (writeDecided d f src limit out)
+      by : (d : Decision) → decide (f .key) (f .version) ≡ d → writeDecided d f src limit out .answer ≡ length n → WrittenFrame n (writeDecided d f src limit out .out)
       by (layout k v) p e =
           let t = itself (f .key) (f .version) k v p in
           let o : layout (f .key) (f .version) ≡ layout k v = sym (ap₂ layout (t .0) (t .1)) in
-          subst (λ d. writeDecided d f src limit out .answer ≡ length n → WrittenFrame n (writeDecided d f src limit out)) o
+          subst (λ d. writeDecided d f src limit out .answer ≡ length n → WrittenFrame n (writeDecided d f src limit out .out)) o
           (content-written n (writeRow (rowOf (f .key) (f .version)) src (f .content)) b g (p ∙ sym o) refl)
           e
       by unlistedKey p e = absurd (no-length unknownKey n e)
       by unlistedVersion p e = absurd (no-length unknownVersion n e)
 
-  -- The output is read as the fields that were written.
-  pub write-read : (n : ℕ) → Bytes src → FormedRow (rowOf (f .key) (f .version)) (f .content) → writeFrame f src limit out .answer ≡ length n → (g : Fields Place) × (readFrame (writeFrame f src limit out .out) limit ≡ frame g) × (valuesIn (writeFrame f src limit out .out) g ≡ valuesIn src f)
-  unfolding splice
-  write-read n b g e =
-      let w = written-frame n b g e in
-      complete (writeFrame f src limit out .out) limit (valuesIn src f) (record { valid = w .valid; within = w .within; rest = drop (0 + len (encodeFrame (valuesIn src f))) out; whole = w .holds })
+-- The output starts with the frame's encoding, so completeness says how it is read.
+module _ (f : Frame) (src : List ℕ) (limit : ℕ) (out : List ℕ) (n : ℕ) (after : List ℕ) (w : WrittenFrame (fieldsOf f) src limit out n after) where
+  abbrev encoded : List ℕ
+  encoded = encodeFrame (valuesOf f src)
+
+  whole : after ≡ encoded ++ drop (len encoded) out
+  whole = w .holds ∙ splice-start out encoded
+
+  starts : Starts after limit (valuesOf f src)
+  starts = record { valid = w .valid; within = w .within; rest = drop (len encoded) out; whole = whole }
+
+  same : n ≡ frameLength after
+  same = omega (arith, w .answer, size-read after limit (valuesOf f src) starts)
+
+  long : len encoded ≡ n
+  long = encoded-length after limit (valuesOf f src) starts ∙ sym same
+
+  reads-back : WroteAndReads f src limit out n after
+  reads-back =
+      record {
+        answer = same;
+        room = w .room;
+        inside = w .places;
+        bytes = ap (λ m. take m after) same ∙ encoded-bytes after limit (valuesOf f src) starts;
+        untouched = ap (drop n) whole ∙ (drop-at encoded (drop (len encoded) out) n long ∙ ap (λ m. drop m out) long);
+        as-long = ap len (w .holds) ∙ length-splice out encoded 0 (omega (arith, long, w .room));
+        back = complete after limit (valuesOf f src) starts;
+      }
+
+pub write-then-read : WriteThenRead
+write-then-read f src limit out n b e =
+    reads-back f src limit out n _ (written-frame (fieldsOf f) src limit out n b (of-table f) e)
+
+pub refused-write-touches-nothing : RefusedWriteTouchesNothing
+unfolding writeFrame
+refused-write-touches-nothing f src limit out n = by (decide (f .key) (f .version))
+  where
+    by : (d : Decision) → writeDecided d f src limit out .answer ≡ refusal n → writeDecided d f src limit out .out ≡ out
+    by (layout k v) e = refused-encoding k v (writeRow (rowOf k v) src (f .content)) limit out n e
+    by unlistedKey e = refl
+    by unlistedVersion e = refl

@@ -3,6 +3,7 @@
 use mathlib.Core.Path.{_≡_}
 use mathlib.Core.Bool.{false, cond}
 use mathlib.Core.List.{List, _++_}
+use mathlib.Core.Logic.{_⊎_}
 use Prim.Native.Nat.{ℕ, _+_, _<_}
 use lib.Dec.{ltb}
 use lib.ListN.{length, take}
@@ -39,3 +40,8 @@ NothingBeyond = (s t : List ℕ) (limit : ℕ) → take (frameLength s) s ≡ ta
 -- or 4 where Size itself is cut.
 abbrev pub CutIsRefused : Type 0
 CutIsRefused = (s : List ℕ) (limit n : ℕ) (f : Fields Place) → readFrame s limit ≡ frame f → n < frameLength s → readFrame (take n s) limit ≡ short (cond (ltb n 4) 4 (frameLength s))
+
+-- An answer other than refusal 1 stays the same, whatever bytes follow. So a program that reads through a window needs
+-- more bytes only where it is told so.
+abbrev pub AnswerStays : Type 0
+AnswerStays = (s rest : List ℕ) (limit : ℕ) → ((n : ℕ) × (readFrame s limit ≡ short n)) ⊎ (readFrame (s ++ rest) limit ≡ readFrame s limit)

@@ -5,4 +5,6 @@ pub mod Elements
 pub mod Grammar
 pub mod Exactness
 pub mod Writing
+pub mod RoundTrips
+pub mod Demand2
 pub mod Cases

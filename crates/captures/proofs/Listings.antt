@@ -1,0 +1,276 @@
+-- A step prints the line of what comes next, which the window tells for the capture, and goes on behind it. Steps one
+-- after another are one listing. Assumes nothing.
+use mathlib.Core.Path.{_≡_, refl, sym, _∙_, ap, subst}
+use mathlib.Core.Bool.{Bool, true, false, cond}
+use mathlib.Core.List.{List, [], _∷_, _++_, append-assoc, append-nil}
+use mathlib.Core.Logic.{_⊎_, inl, inr}
+use Prim.Native.Nat.{ℕ, suc, _+_, _-_, _<_, _≤_}
+use native.Mathlib.Numerals.{add-one}
+use native.Mathlib.Omega.{arith}
+use lib.Dec.{ltb, leb, eqb}
+use lib.ListN.{length, take, drop, length-append, length-drop}
+use lib.Seq.{take-all, drop-append-le, drop-drop}
+use borrow.Author.Tests.{lt-ltb, le-ltb, ltb-true, ltb-false, le-leb, lt-leb, leb-true, leb-false, eqb-true, eqb-false}
+use Rattle.wire.specs.Buffer.{Holds, holds, splice}
+use Rattle.wire.proofs.Splice.{splice-none, splice-splice, length-splice}
+use Rattle.captures.specs.Text.{ascii, decimal, joined, puts}
+use Rattle.captures.specs.Listing.{Next, framed, whole, cut, refused, more, following, frameLine, cutLine, refusedLine, closingLine, linesFrom, linesOf}
+use Rattle.captures.specs.Steps.{goesOn, greatest, tooLong, begun, halted, advanced, printed, moved, Steps, Rest, behind, Lists, Stopped, Stops}
+use Rattle.captures.specs.declared.listing.Progress.{Progress}
+use Rattle.captures.specs.declared.listing.State.{State}
+use Rattle.captures.specs.declared.listing.State.the-variants.{Going, More, Done, TooLong}
+use Rattle.captures.proofs.Texts.{joined-append, puts-fit, decimal-most, hex-length, piece-most, no-piece-most}
+use Rattle.captures.proofs.Followings.{window-tells, framed-there, lines-unfold}
+
+-- No step prints more than 128 bytes.
+closing-most : (k : ℕ) (ending : List ℕ) → length ending ≤ 9 → length (joined (closingLine k ending)) ≤ 36
+closing-most k ending h =
+    piece-most (ascii "frames ") _ 7 29 (omega arith) (piece-most (decimal k) _ 20 9 (decimal-most k) (piece-most ending _ 9 0 h no-piece-most))
+
+both-most : (ps qs : List (List ℕ)) (m n : ℕ) → length (joined ps) ≤ m → length (joined qs) ≤ n → length (joined (ps ++ qs)) ≤ m + n
+both-most ps qs m n h k = rw (joined-append ps qs, length-append (joined ps) (joined qs)) (omega (arith, h, k))
+
+printed-most : (n : Next) (p : Progress) → length (joined (printed n p)) ≤ 128
+printed-most (framed total key version) p = by (tooLong (p .offset) (p .frames) total)
+  where
+    line : length (joined (frameLine (p .offset) total key version)) ≤ 68
+    line =
+        piece-most (decimal (p .offset)) _ 20 48 (decimal-most _)
+        (piece-most (ascii " ") _ 1 47 (omega arith)
+        (piece-most (decimal total) _ 20 27 (decimal-most _)
+        (piece-most (ascii " ") _ 1 26 (omega arith)
+        (piece-most _ _ 4 22 (let e = hex-length key in omega (arith, e))
+        (piece-most (ascii " ") _ 1 21 (omega arith)
+        (piece-most (decimal version) _ 20 1 (decimal-most _)
+        (piece-most (ascii "\n") _ 1 0 (omega arith) no-piece-most)))))))
+
+    by : (t : Bool) → length (joined (cond t [] (frameLine (p .offset) total key version))) ≤ 128
+    by true = let h = no-piece-most in omega (arith, h)
+    by false = omega (arith, line)
+printed-most whole p = let h = closing-most (p .frames) (ascii " whole\n") (omega arith) in omega (arith, h)
+printed-most (cut left needed) p =
+    let h = both-most (cutLine (p .offset) left needed) (closingLine (p .frames) (ascii " cut\n")) 70 36 line (closing-most (p .frames) (ascii " cut\n") (omega arith)) in
+    omega (arith, h)
+  where
+    line : length (joined (cutLine (p .offset) left needed)) ≤ 70
+    line =
+        piece-most (decimal (p .offset)) _ 20 50 (decimal-most _)
+        (piece-most (ascii " CUT ") _ 5 45 (omega arith)
+        (piece-most (decimal left) _ 20 25 (decimal-most _)
+        (piece-most (ascii " of ") _ 4 21 (omega arith)
+        (piece-most (decimal needed) _ 20 1 (decimal-most _)
+        (piece-most (ascii "\n") _ 1 0 (omega arith) no-piece-most)))))
+printed-most (refused number) p =
+    let h = both-most (refusedLine (p .offset) number) (closingLine (p .frames) (ascii " refused\n")) 50 36 line (closing-most (p .frames) (ascii " refused\n") (omega arith)) in
+    omega (arith, h)
+  where
+    line : length (joined (refusedLine (p .offset) number)) ≤ 50
+    line =
+        piece-most (decimal (p .offset)) _ 20 30 (decimal-most _)
+        (piece-most (ascii " REFUSED ") _ 9 21 (omega arith)
+        (piece-most (decimal number) _ 20 1 (decimal-most _)
+        (piece-most (ascii "\n") _ 1 0 (omega arith) no-piece-most)))
+printed-most more p = let h = no-piece-most in omega (arith, h)
+
+-- What the window tells holds of the capture.
+known : (w rest : List ℕ) (ended : Bool) (n : Next) → Rest ended rest → following w ended ≡ n → (n ≡ more → ⊥) → following (w ++ rest) true ≡ n
+known w rest true n r e d = rw (r, append-nil w) e
+known w rest false n r e d = by (window-tells w rest)
+  where
+    by : (following w false ≡ more) ⊎ (following (w ++ rest) true ≡ following w false) → following (w ++ rest) true ≡ n
+    by (inl x) = absurd (d (sym e ∙ x))
+    by (inr y) = y ∙ e
+
+module _ (w : List ℕ) (ended : Bool) (p : Progress) (inside : p .from ≤ length w) where
+  lines-next : (n : Next) → following (drop (p .from) w) ended ≡ n → (n ≡ more → ⊥) → (rest : List ℕ) → Rest ended rest → linesOf (drop (p .from) (w ++ rest)) (p .offset) (p .frames) ≡ linesFrom n (p .offset) (p .frames) (λ t. linesOf (drop t (drop (p .from) (w ++ rest))) (p .offset + t) (suc (p .frames)))
+  lines-next n e d rest r =
+      let f : following (drop (p .from) (w ++ rest)) true ≡ n = rw (drop-append-le (p .from) w rest inside) (known (drop (p .from) w) rest ended n r e d) in
+      lines-unfold (drop (p .from) (w ++ rest)) (p .offset) (p .frames)
+      ∙ ap (λ (x : Next). linesFrom x (p .offset) (p .frames) (λ t. linesOf (drop t (drop (p .from) (w ++ rest))) (p .offset + t) (suc (p .frames)))) f
+
+  -- Where a step leads.
+  abbrev Leads : List ℕ → Progress → Type 0
+  Leads text r = (r .from ≤ length w) × ((rest : List ℕ) → Rest ended rest → linesOf (drop (p .from) (w ++ rest)) (p .offset) (p .frames) ≡ text ++ behind (r .state) (linesOf (drop (r .from) (w ++ rest)) (r .offset) (r .frames)))
+
+  stays-there : (at : ℕ) (s : State) (ps : List (List ℕ)) → ps ≡ [] → ((l : List ℕ) → behind s l ≡ l) → Leads (joined ps) (halted p at s)
+  unfolding joined
+  stays-there at s ps e b = (inside, λ rest r. rw (e, b (linesOf (drop (p .from) (w ++ rest)) (p .offset) (p .frames))))
+
+  closes : (n : Next) (at : ℕ) → following (drop (p .from) w) ended ≡ n → (n ≡ more → ⊥) → ((f : ℕ → List ℕ) → linesFrom n (p .offset) (p .frames) f ≡ joined (printed n p)) → Leads (joined (printed n p)) (halted p at Done)
+  closes n at e d g = (inside, λ rest r. lines-next n e d rest r ∙ (g _ ∙ sym (append-nil (joined (printed n p)))))
+
+  leads : (n : Next) (at : ℕ) → following (drop (p .from) w) ended ≡ n → Leads (joined (printed n p)) (moved n p at)
+  leads (framed total key version) at e = by (tooLong (p .offset) (p .frames) total)
+    where
+      there : (0 < total) × (total ≤ length (drop (p .from) w))
+      there = framed-there (drop (p .from) w) ended total key version e
+
+      on : (rest : List ℕ) → drop total (drop (p .from) (w ++ rest)) ≡ drop (p .from + total) (w ++ rest)
+      on rest = drop-drop total (p .from) (w ++ rest)
+
+      by : (t : Bool) → Leads (joined (cond t [] (frameLine (p .offset) total key version))) (cond t (halted p at TooLong) (advanced p total at))
+      by true = stays-there at TooLong [] refl (λ l. refl)
+      by false = (
+        let l = length-drop (p .from) w in omega (arith, there .1, l, inside),
+        λ rest r. lines-next (framed total key version) e (λ z. absurd (let o : _≡_ {A = ℕ} 0 1 = cc in omega arith)) rest r
+            ∙ ap (λ (s : List ℕ). joined (frameLine (p .offset) total key version) ++ linesOf s (p .offset + total) (suc (p .frames))) (on rest)
+            ∙ ap (λ (k : ℕ). joined (frameLine (p .offset) total key version) ++ linesOf (drop (p .from + total) (w ++ rest)) (p .offset + total) k) (sym (add-one (p .frames))),
+      )
+  leads whole at e = closes whole at e (λ z. absurd (let o : _≡_ {A = ℕ} 0 1 = cc in omega arith)) (λ f. refl)
+  leads (cut left needed) at e = closes (cut left needed) at e (λ z. absurd (let o : _≡_ {A = ℕ} 0 1 = cc in omega arith)) (λ f. sym (joined-append (cutLine (p .offset) left needed) (closingLine (p .frames) (ascii " cut\n"))))
+  leads (refused number) at e = closes (refused number) at e (λ z. absurd (let o : _≡_ {A = ℕ} 0 1 = cc in omega arith)) (λ f. sym (joined-append (refusedLine (p .offset) number) (closingLine (p .frames) (ascii " refused\n"))))
+  leads more at e = stays-there at More [] refl (λ l. refl)
+
+  module _ (entry exit : List ℕ) (r : Progress) (n : Next) (e : following (drop (p .from) w) ended ≡ n) (s : Steps n p entry exit r) where
+    pub step-lists : p .written + 128 ≤ length entry → Lists w ended p entry exit r
+    step-lists room =
+        let most = printed-most n p in
+        let fits : p .written + length (joined (printed n p)) ≤ length entry = omega (arith, most, room) in
+        let h : holds exit (r .written) ≡ holds (splice entry (p .written) (joined (printed n p))) (p .written + length (joined (printed n p))) = s .text ∙ puts-fit entry (p .written) (printed n p) fits in
+        let l : Leads (joined (printed n p)) r = subst (Leads (joined (printed n p))) (sym (s .place)) (leads n (r .written) e) in
+        let at : r .written ≡ p .written + length (joined (printed n p)) = ap (λ (x : Holds). x .next) h in
+        record { text = joined (printed n p); put = ap (λ (x : Holds). x .bytes) h; written = at; room = rw at fits; within = l .0; lines = l .1 }
+
+    -- A step that can be followed by another has gone on.
+    pub step-goes : goesOn (r .state) ≡ true → (r .state ≡ Going) × (p .from < r .from)
+    step-goes g =
+        subst (λ (x : Progress). (x .state ≡ Going) × (p .from < x .from)) (sym (s .place))
+        (of n e (ap (λ (x : Progress). goesOn (x .state)) (sym (s .place)) ∙ g))
+      where
+        never : false ≡ true → (m : Progress) → (m .state ≡ Going) × (p .from < m .from)
+        never z m = absurd (let o : _≡_ {A = ℕ} 0 1 = cc in omega arith)
+
+        of : (n : Next) → following (drop (p .from) w) ended ≡ n → goesOn (moved n p (r .written) .state) ≡ true → (moved n p (r .written) .state ≡ Going) × (p .from < moved n p (r .written) .from)
+        of (framed total key version) e g = by (tooLong (p .offset) (p .frames) total) g
+          where
+            by : (t : Bool) → goesOn ((cond t (halted p (r .written) TooLong) (advanced p total (r .written))) .state) ≡ true → ((cond t (halted p (r .written) TooLong) (advanced p total (r .written))) .state ≡ Going) × (p .from < (cond t (halted p (r .written) TooLong) (advanced p total (r .written))) .from)
+            by true g = never g (halted p (r .written) TooLong)
+            by false g = (refl, let a = framed-there (drop (p .from) w) ended total key version e in omega (arith, a .0))
+        of whole e g = never g (halted p (r .written) Done)
+        of (cut left needed) e g = never g (halted p (r .written) Done)
+        of (refused number) e g = never g (halted p (r .written) Done)
+        of more e g = never g (halted p (r .written) More)
+
+    pub step-less : goesOn (r .state) ≡ true → r .from ≤ length w → length w - r .from < length w - p .from
+    step-less g l = let h = step-goes g in omega (arith, h .1, l)
+
+    -- A step that can't be followed by another says why.
+    pub step-stops : (len : ℕ) → goesOn (r .state) ≡ false → Stops w ended len r
+    step-stops len g =
+        subst (Stops w ended len) (sym (s .place)) (of n e (ap (λ (x : Progress). goesOn (x .state)) (sym (s .place)) ∙ g))
+      where
+        of : (n : Next) → following (drop (p .from) w) ended ≡ n → goesOn (moved n p (r .written) .state) ≡ false → Stops w ended len (moved n p (r .written))
+        of (framed total key version) e g = by (tooLong (p .offset) (p .frames) total) refl g
+          where
+            by : (t : Bool) → tooLong (p .offset) (p .frames) total ≡ t → goesOn ((cond t (halted p (r .written) TooLong) (advanced p total (r .written))) .state) ≡ false → Stops w ended len (cond t (halted p (r .written) TooLong) (advanced p total (r .written)))
+            by true q g = (total, key, version, e, q)
+            by false q g = absurd (let o : _≡_ {A = ℕ} 0 1 = cc in omega arith)
+        of whole e g = tt
+        of (cut left needed) e g = tt
+        of (refused number) e g = tt
+        of more e g = e
+
+-- The same length.
+pub lists-length : (w : List ℕ) (ended : Bool) (p : Progress) (entry exit : List ℕ) (r : Progress) → Lists w ended p entry exit r → length exit ≡ length entry
+lists-length w ended p entry exit r l =
+    let h : p .written + length (l .text) ≤ length entry = subst (λ (n : ℕ). n ≤ length entry) (l .written) (l .room) in
+    rw (l .put) (length-splice entry (l .text) (p .written) h)
+
+pub lists-start : (w : List ℕ) (ended : Bool) (entry : List ℕ) (p q : Progress) → q ≡ begun p → Lists w ended q entry entry q × (q .state ≡ Going)
+lists-start w ended entry p q e = rw e (record { text = []; put = splice-none entry 0; written = refl; room = omega arith; within = omega arith; lines = λ rest r. refl }, refl)
+
+pub lists-from : (w : List ℕ) (ended : Bool) (p q r : Progress) (a b : List ℕ) → q ≡ p → Lists w ended q a b r → Lists w ended p a b r
+lists-from w ended p q r a b e l = subst (λ (x : Progress). Lists w ended x a b r) e l
+
+pub lists-more : (w : List ℕ) (ended : Bool) (p q r : Progress) (a b c : List ℕ) → Lists w ended p a b q → q .state ≡ Going → Lists w ended q b c r → Lists w ended p a c r
+lists-more w ended p q r a b c l g m =
+    let k : length b ≡ length a = lists-length w ended p a b q l in
+    let n : length (l .text ++ m .text) ≡ length (l .text) + length (m .text) = length-append (l .text) (m .text) in
+    let x = l .written in
+    let y = m .written in
+    let z = m .room in
+    let h : p .written + length (l .text) + length (m .text) ≤ length a = omega (arith, k, x, y, z) in
+    record {
+      text = l .text ++ m .text;
+      put = m .put ∙ (ap (λ (s : List ℕ). splice s (q .written) (m .text)) (l .put) ∙ (ap (λ (i : ℕ). splice (splice a (p .written) (l .text)) i (m .text)) x ∙ splice-splice a (l .text) (m .text) (p .written) h));
+      written = omega (arith, n, x, y);
+      room = omega (arith, k, z);
+      within = m .within;
+      lines = λ rest f. l .lines rest f
+          ∙ (ap (λ (s : State). l .text ++ behind s (linesOf (drop (q .from) (w ++ rest)) (q .offset) (q .frames))) g
+          ∙ (ap (λ (s : List ℕ). l .text ++ s) (m .lines rest f) ∙ sym (append-assoc (l .text) (m .text) _)));
+    }
+
+pub lists-room : (w : List ℕ) (ended : Bool) (p q : Progress) (a b : List ℕ) (room : Bool) → Lists w ended p a b q → room ≡ leb (q .written + 128) (length b) → room ≡ true → q .written + 128 ≤ length b
+lists-room w ended p q a b room l e f = leb-true _ _ (sym e ∙ f)
+
+pub lists-full : (w : List ℕ) (ended : Bool) (p q : Progress) (a b : List ℕ) (room : Bool) → Lists w ended p a b q → q .state ≡ Going → room ≡ leb (q .written + 128) (length b) → room ≡ false → Stops w ended (length a) q
+lists-full w ended p q a b room l g e f =
+    let k : length b ≡ length a = lists-length w ended p a b q l in
+    let h : length b < q .written + 128 = leb-false _ _ (sym e ∙ f) in
+    subst (λ (s : State). Stopped s w ended (length a) q) (sym g) (omega (arith, k, h))
+
+-- The tests of the code.
+pub room-none : (written len : ℕ) → len < 128 → false ≡ leb (written + 128) len
+room-none written len h = sym (lt-leb (written + 128) len (omega (arith, h)))
+
+pub room-some : (written len : ℕ) (t : Bool) → 128 ≤ len → t ≡ leb written (len - 128) → t ≡ leb (written + 128) len
+room-some written len t h e = by (leb written (len - 128)) refl
+  where
+    by : (u : Bool) → leb written (len - 128) ≡ u → t ≡ leb (written + 128) len
+    by true q = let l = leb-true written (len - 128) q in e ∙ (q ∙ sym (le-leb (written + 128) len (omega (arith, l, h))))
+    by false q = let l = leb-false written (len - 128) q in e ∙ (q ∙ sym (lt-leb (written + 128) len (omega (arith, l, h))))
+
+pub offset-long : (offset frames total : ℕ) → greatest - offset < total → true ≡ tooLong offset frames total
+unfolding tooLong
+offset-long offset frames total h = rw (lt-ltb greatest (offset + total) (omega (arith, h)))
+
+pub frames-long : (offset frames total : ℕ) (t : Bool) → offset < suc greatest → frames < suc greatest → total ≤ greatest - offset → t ≡ eqb frames greatest → t ≡ tooLong offset frames total
+unfolding tooLong
+frames-long offset frames total t a b h e = rw (le-ltb greatest (offset + total) (omega (arith, a, h))) (by (eqb frames greatest) refl)
+  where
+    by : (u : Bool) → eqb frames greatest ≡ u → t ≡ ltb greatest (frames + 1)
+    by true q = let l = eqb-true frames greatest q in e ∙ (q ∙ sym (lt-ltb greatest (frames + 1) (omega (arith, l))))
+    by false q = let l = eqb-false frames greatest q in e ∙ (q ∙ sym (le-ltb greatest (frames + 1) (omega (arith, l, b))))
+
+-- A frame that is not too long.
+pub not-long : (offset frames total : ℕ) → tooLong offset frames total ≡ false → (offset + total ≤ greatest) × (frames + 1 ≤ greatest)
+unfolding tooLong
+not-long offset frames total = by (ltb greatest (offset + total)) refl
+  where
+    by : (t : Bool) → ltb greatest (offset + total) ≡ t → cond t true (ltb greatest (frames + 1)) ≡ false → (offset + total ≤ greatest) × (frames + 1 ≤ greatest)
+    by true q e = absurd (let o : _≡_ {A = ℕ} 0 1 = cc in omega arith)
+    by false q e = (ltb-false _ _ q, ltb-false _ _ e)
+
+pub steps-long : (p : Progress) (total key version : ℕ) (t : Bool) (out : List ℕ) (r : Progress) → t ≡ tooLong (p .offset) (p .frames) total → t ≡ true → r ≡ halted p (p .written) TooLong → Steps (framed total key version) p out out r
+unfolding puts
+steps-long p total key version t out r e f g =
+    let h : tooLong (p .offset) (p .frames) total ≡ true = sym e ∙ f in
+    rw g (record { text = rw h; place = rw h })
+
+pub steps-frame : (p : Progress) (total key version at : ℕ) (t : Bool) (entry exit : List ℕ) → t ≡ tooLong (p .offset) (p .frames) total → t ≡ false → holds exit at ≡ puts entry (p .written) (frameLine (p .offset) total key version) → Steps (framed total key version) p entry exit (advanced p total at)
+steps-frame p total key version at t entry exit e f g =
+    let h : tooLong (p .offset) (p .frames) total ≡ false = sym e ∙ f in
+    record { text = rw h g; place = rw h }
+
+pub steps-more : (p : Progress) (out : List ℕ) (r : Progress) → r ≡ halted p (p .written) More → Steps more p out out r
+unfolding puts
+steps-more p out r g = rw g (record { text = refl; place = refl })
+
+pub steps-next : (n m : Next) (p : Progress) (entry exit : List ℕ) (r : Progress) → n ≡ m → Steps n p entry exit r → Steps m p entry exit r
+steps-next n m p entry exit r e s = subst (λ (x : Next). Steps x p entry exit r) e s
+
+pub halted-at : (from offset frames : ℕ) (r : Progress) (at : ℕ) (exit : List ℕ) (h : Holds) (s : State) → holds exit at ≡ h → r ≡ record { from = from; offset = offset; frames = frames; written = at; state = s } → (holds exit (r .written) ≡ h) × (r ≡ record { from = from; offset = offset; frames = frames; written = r .written; state = s })
+halted-at from offset frames r at exit h s e f = rw f (e, refl)
+
+-- The window from a place on, as it is lent.
+pub window-from : (w : List ℕ) (from : ℕ) (ended : Bool) (n : Next) → n ≡ following (take (length w - from) (drop from w)) ended → n ≡ following (drop from w) ended
+window-from w from ended n e =
+    let l : length (drop from w) ≤ length w - from = rw (length-drop from w) (omega arith) in
+    rw (take-all (length w - from) (drop from w) l) at e
+
+pub frame-inside : (w : List ℕ) (from : ℕ) (ended : Bool) (total key version : ℕ) → from ≤ length w → framed total key version ≡ following (take (length w - from) (drop from w)) ended → from + total ≤ length w
+frame-inside w from ended total key version h e =
+    let a = framed-there (drop from w) ended total key version (sym (window-from w from ended (framed total key version) e)) in
+    let l : total ≤ length w - from = subst (λ (n : ℕ). total ≤ n) (length-drop from w) (a .1) in
+    omega (arith, l, h)

@@ -1,0 +1,92 @@
+-- A listing in steps, through a window: each step prints what comes next (01 "The listing program").
+use mathlib.Core.Path.{_≡_}
+use mathlib.Core.Bool.{Bool, true, false, cond}
+use mathlib.Core.List.{List, [], _∷_, _++_}
+use Prim.Native.Nat.{ℕ, _+_, _≤_, _<_}
+use lib.Dec.{ltb}
+use lib.ListN.{length, drop}
+use Rattle.wire.specs.Buffer.{holds, splice}
+use Rattle.captures.specs.Text.{ascii, puts}
+use Rattle.captures.specs.Listing.{Next, framed, whole, cut, refused, more, following, frameLine, cutLine, refusedLine, closingLine, linesOf}
+use Rattle.captures.specs.declared.listing.Progress.{Progress}
+use Rattle.captures.specs.declared.listing.State.{State}
+use Rattle.captures.specs.declared.listing.State.the-variants.{Going, More, Done, TooLong}
+
+abbrev pub goesOn : State → Bool
+goesOn Going = true
+goesOn More = false
+goesOn Done = false
+goesOn TooLong = false
+
+-- The greatest offset and count of frames that is kept. No real capture gets there.
+abbrev pub greatest : ℕ
+greatest = 0xffff_ffff_ffff_ffff
+
+-- A frame whose end, or whose count, would be beyond that.
+unfoldable pub tooLong : ℕ → ℕ → ℕ → Bool
+tooLong offset frames total = cond (ltb greatest (offset + total)) true (ltb greatest (frames + 1))
+
+-- At the start of a window and of a text.
+abbrev pub begun : Progress → Progress
+begun p = record { from = 0; offset = p .offset; frames = p .frames; written = 0; state = Going }
+
+-- No further in the capture, with so much text.
+abbrev pub halted : Progress → ℕ → State → Progress
+halted p written state = record { from = p .from; offset = p .offset; frames = p .frames; written = written; state = state }
+
+-- One frame further.
+abbrev pub advanced : Progress → ℕ → ℕ → Progress
+advanced p total written = record { from = p .from + total; offset = p .offset + total; frames = p .frames + 1; written = written; state = Going }
+
+-- What a step prints of what comes next, and how far the listing is then.
+abbrev pub printed : Next → Progress → List (List ℕ)
+printed (framed total key version) p = cond (tooLong (p .offset) (p .frames) total) [] (frameLine (p .offset) total key version)
+printed whole p = closingLine (p .frames) (ascii " whole\n")
+printed (cut left needed) p = cutLine (p .offset) left needed ++ closingLine (p .frames) (ascii " cut\n")
+printed (refused number) p = refusedLine (p .offset) number ++ closingLine (p .frames) (ascii " refused\n")
+printed more p = []
+
+abbrev pub moved : Next → Progress → ℕ → Progress
+moved (framed total key version) p written = cond (tooLong (p .offset) (p .frames) total) (halted p written TooLong) (advanced p total written)
+moved whole p written = halted p written Done
+moved (cut left needed) p written = halted p written Done
+moved (refused number) p written = halted p written Done
+moved more p written = halted p written More
+
+pub record Steps (next : Next) (p : Progress) (entry exit : List ℕ) (r : Progress) : Type 0 where
+  pub text : holds exit (r .written) ≡ puts entry (p .written) (printed next p)
+  pub place : r ≡ moved next p (r .written)
+
+-- What may follow a window: nothing, if the capture has ended.
+abbrev pub Rest : Bool → List ℕ → Type 0
+Rest true rest = rest ≡ []
+Rest false rest = Unit
+
+-- The lines behind those that are written.
+abbrev pub behind : State → List ℕ → List ℕ
+behind Going s = s
+behind More s = s
+behind Done s = []
+behind TooLong s = s
+
+-- A listing of the window w gone on with from p to r: the text that is put behind p's is the start of the lines that
+-- the capture has from p on, whatever follows the window, and r tells where the others start. If it is done, there are
+-- no others.
+pub record Lists (w : List ℕ) (ended : Bool) (p : Progress) (entry exit : List ℕ) (r : Progress) : Type 0 where
+  pub text : List ℕ
+  pub put : exit ≡ splice entry (p .written) text
+  pub written : r .written ≡ p .written + length text
+  pub room : r .written ≤ length entry
+  pub within : r .from ≤ length w
+  pub lines : (rest : List ℕ) → Rest ended rest → linesOf (drop (p .from) (w ++ rest)) (p .offset) (p .frames) ≡ text ++ behind (r .state) (linesOf (drop (r .from) (w ++ rest)) (r .offset) (r .frames))
+
+-- Why a listing of the window w stopped where r says: less than 128 of so many bytes are left for the text; the
+-- window's rest doesn't tell what comes next; or the next frame would end beyond the greatest offset or count.
+abbrev pub Stopped : State → List ℕ → Bool → ℕ → Progress → Type 0
+Stopped Going w ended len r = len < r .written + 128
+Stopped More w ended len r = following (drop (r .from) w) ended ≡ more
+Stopped Done w ended len r = Unit
+Stopped TooLong w ended len r = (total : ℕ) × (key : ℕ) × (version : ℕ) × (following (drop (r .from) w) ended ≡ framed total key version) × (tooLong (r .offset) (r .frames) total ≡ true)
+
+abbrev pub Stops : List ℕ → Bool → ℕ → Progress → Type 0
+Stops w ended len r = Stopped (r .state) w ended len r

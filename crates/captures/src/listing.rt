@@ -1,0 +1,180 @@
+// A capture listed through a window, into a lent buffer.
+ghost use mathlib.Core.Path.{_≡_};
+ghost use Prim.Native.Nat.{_+_, _≤_};
+ghost use lib.Dec.{leb};
+ghost use lib.ListN.{length, drop};
+ghost use Rattle.wire.specs.Buffer.{holds};
+ghost use Rattle.captures.specs.Text.{puts};
+ghost use Rattle.captures.specs.Listing.{framed, cut, refused, following, closingLine};
+ghost use Rattle.captures.specs.Steps.{goesOn, greatest, tooLong, begun, halted, Steps, Lists, Stops};
+ghost use Rattle.captures.specs.declared.listing.State.the-variants.{Done};
+use crate::line::closing_line;
+use crate::line::cut_line;
+use crate::line::frame_line;
+use crate::line::refused_line;
+use crate::window::Next;
+use crate::window::next_frame;
+
+// The longest that one step prints is below this many bytes.
+const ROOM: usize = 128;
+
+pub enum State {
+    // More may be listed, and there is no room for it.
+    Going,
+    // More bytes are needed.
+    More,
+    // The closing line is written.
+    Done,
+    // The offset or the count of frames would pass 2^64 - 1.
+    TooLong,
+}
+
+// How far a listing is.
+pub struct Progress {
+    // The place in the window behind the last frame listed, and the same place in the capture.
+    pub from: usize,
+    pub offset: u64,
+    pub frames: u64,
+    // How many bytes of text there are.
+    pub written: usize,
+    pub state: State,
+}
+
+// Lists the window's frames, as many as are whole and as out has room for. The window starts at start.offset of the
+// capture, behind start.frames frames; nothing follows it if the capture has ended.
+pub fn list(window: &[u8], ended: bool, start: Progress, out: &mut [u8]) -> Progress
+    ensures { λ r. ⌜ Lists (now (window .entry)) ended (begun start) (now (out .entry)) (now (out .exit)) r ⌝ }
+    ensures { λ r. ⌜ Stops (now (window .entry)) ended (length (now (out .entry))) r ⌝ }
+{
+    let mut p = begin(start);
+    while has_room(p.written, out.len()) {
+        p = step(window, ended, p, out);
+        let state = p.state;
+        if !goes_on(state) {
+            return p;
+        }
+    }
+    p
+}
+
+fn begin(start: Progress) -> Progress
+    ensures { λ r. ⌜ r ≡ begun start ⌝ }
+{
+    Progress {
+        from: 0,
+        offset: start.offset,
+        frames: start.frames,
+        written: 0,
+        state: State::Going,
+    }
+}
+
+fn has_room(written: usize, len: usize) -> bool
+    ensures { λ r. ⌜ r ≡ leb (written + 128) len ⌝ }
+{
+    if len < ROOM {
+        return false;
+    }
+    written <= len - ROOM
+}
+
+pub fn goes_on(state: State) -> bool
+    ensures { λ r. ⌜ r ≡ goesOn state ⌝ }
+{
+    match state {
+        State::Going => true,
+        State::More => false,
+        State::Done => false,
+        State::TooLong => false,
+    }
+}
+
+// Prints what comes next.
+fn step(window: &[u8], ended: bool, p: Progress, out: &mut [u8]) -> Progress
+    requires { ⌜ p .from ≤ length (now window) ⌝ }
+    ensures { λ r. ⌜ Steps (following (drop (p .from) (now (window .entry))) ended) p (now (out .entry)) (now (out .exit)) r ⌝ }
+{
+    let from = p.from;
+    let at = p.written;
+    match next_frame(&window[from..], ended) {
+        Next::Frame {
+            total,
+            key,
+            version,
+        } => frame_step(p, out, total, key, version),
+        Next::Whole => closed(p, out, at, b" whole\n"),
+        Next::Cut { left, needed } => cut_step(p, out, left, needed),
+        Next::Refused { number } => refused_step(p, out, number),
+        Next::More => halt(p, at, State::More),
+    }
+}
+
+fn frame_step(p: Progress, out: &mut [u8], total: u64, key: u16, version: u16) -> Progress
+    requires { ⌜ p .from + total ≤ greatest ⌝ }
+    ensures { λ r. ⌜ Steps (framed total key version) p (now (out .entry)) (now (out .exit)) r ⌝ }
+{
+    let from = p.from;
+    let offset = p.offset;
+    let frames = p.frames;
+    let at = p.written;
+    if too_long(offset, frames, total) {
+        return halt(p, at, State::TooLong);
+    }
+    let next = frame_line(out, at, offset, total, key, version);
+    Progress {
+        from: from + total as usize,
+        offset: offset + total,
+        frames: frames + 1,
+        written: next,
+        state: State::Going,
+    }
+}
+
+fn too_long(offset: u64, frames: u64, total: u64) -> bool
+    ensures { λ r. ⌜ r ≡ tooLong offset frames total ⌝ }
+{
+    if u64::MAX - offset < total {
+        return true;
+    }
+    frames == u64::MAX
+}
+
+fn cut_step(p: Progress, out: &mut [u8], left: u64, needed: u64) -> Progress
+    ensures { λ r. ⌜ Steps (cut left needed) p (now (out .entry)) (now (out .exit)) r ⌝ }
+{
+    let at = p.written;
+    let offset = p.offset;
+    let behind = cut_line(out, at, offset, left, needed);
+    closed(p, out, behind, b" cut\n")
+}
+
+fn refused_step(p: Progress, out: &mut [u8], number: u8) -> Progress
+    ensures { λ r. ⌜ Steps (refused number) p (now (out .entry)) (now (out .exit)) r ⌝ }
+{
+    let at = p.written;
+    let offset = p.offset;
+    let behind = refused_line(out, at, offset, number);
+    closed(p, out, behind, b" refused\n")
+}
+
+// The closing line, at a place of out.
+fn closed(p: Progress, out: &mut [u8], at: usize, ending: &[u8]) -> Progress
+    ensures { λ r. ⌜ holds (now (out .exit)) (r .written) ≡ puts (now (out .entry)) at (closingLine (p .frames) (now (ending .entry))) ⌝ }
+    ensures { λ r. ⌜ r ≡ halted p (r .written) Done ⌝ }
+{
+    let frames = p.frames;
+    let next = closing_line(out, at, frames, ending);
+    halt(p, next, State::Done)
+}
+
+fn halt(p: Progress, written: usize, state: State) -> Progress
+    ensures { λ r. ⌜ r ≡ halted p written state ⌝ }
+{
+    Progress {
+        from: p.from,
+        offset: p.offset,
+        frames: p.frames,
+        written: written,
+        state: state,
+    }
+}

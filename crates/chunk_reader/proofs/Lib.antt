@@ -1,0 +1,4 @@
+-- Lemmas that belong to no one function.
+pub mod Spots
+pub mod Runs
+pub mod Held

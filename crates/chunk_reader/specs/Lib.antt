@@ -1,0 +1,4 @@
+-- The messages of a chunk, and the reader that gives them one by one.
+pub mod Messages
+pub mod Reader
+pub mod Run

@@ -1,0 +1,124 @@
+-- Where the checks of a field that is written end: with a refusal, or with its bytes. Assumes nothing.
+use mathlib.Core.Path.{_≡_, refl, _∙_, sym, ap}
+use mathlib.Core.Bool.{Bool, true, false, not}
+use mathlib.Core.List.{List, [], _++_}
+use mathlib.Core.Option.{none, some}
+use Prim.Native.Nat.{ℕ, _+_, _-_, _/_, _^_, _<_, _≤_}
+use native.Mathlib.Omega.{arith}
+use lib.Dec.{ltb, leb, lit≤}
+use lib.IntN.{ℤ, pos, negsuc}
+use lib.ListN.{length, take, drop, length-append}
+use borrow.Author.Tests.{lt-ltb, le-ltb, lt-leb, le-leb, ltb-false}
+use Rattle.wire.specs.Integers.{digits}
+use Rattle.wire.proofs.Widths.{integers}
+use Rattle.wire.proofs.Splice.{part-length}
+use Rattle.protocol.specs.Fields.{bytesAt}
+use Rattle.protocol.specs.Fields as F
+use Rattle.protocol.specs.Kinds.{Row, lengthWidth, specification}
+use Rattle.protocol.specs.Refusals.{fieldCut, badLength, notUtf8, referenceTooLong, valueNotAdmitted, bytesLeft}
+use Rattle.protocol.specs.declared.kind.Form.{Form}
+use Rattle.protocol.specs.declared.kind.Form.the-variants.{Text, Reference, Bytes}
+use Rattle.protocol.specs.declared.place.Place.{Place}
+use Rattle.rules.specs.Outcome.{Outcome, got, refused, repeated}
+use Rattle.rules.specs.Reading.{tooLong, isText, readRow}
+use Rattle.protocol.specs.declared.offset.OffsetSpecification.the-variants.{None, Offset, Timestamp}
+use Rattle.rules.specs.Writing.{Encoding, wrote, refuse, outside, fitsSigned, usedUp, writeUnsigned, writeString, writeOffset, writeList}
+use Rattle.wire.specs.Signed as two's
+use Rattle.rules.proofs.Bounds.{numbered-row}
+use Rattle.fields.specs.Cursor.{cursor}
+use Rattle.fields.specs.Writer.{State, behind, step, stepField}
+use Rattle.fields.specs.declared.cursor.Cursor.{Cursor}
+use Rattle.fields.proofs.Loops.{ends}
+use Rattle.fields.proofs.Parts.{pieces-refused, pieces-left, pieces-used}
+use mir.Syntax.{Width}
+use mir.Val.{SFits, hbits}
+
+-- A number.
+module _ (n most x : ℕ) where
+  pub too-wide : most < x → writeUnsigned n most x ≡ refuse valueNotAdmitted
+  too-wide h = rw (lt-ltb _ _ h)
+
+  pub fits : most < 256 ^ n → x ≤ most → writeUnsigned n most x ≡ wrote (digits n x)
+  fits h l = rw (le-ltb _ _ l, lt-leb (256 ^ n) x (omega arith))
+
+-- A signed number of a type fits the type's bytes.
+pub signed-fits : (w : Width) (n : ℕ) (z : ℤ) → 2 ^ hbits w ≡ 256 ^ n / 2 → SFits w z → fitsSigned n z ≡ true
+signed-fits w n (pos x) e f = lt-ltb x (256 ^ n / 2) (rw (← e) (f .sfits))
+signed-fits w n (negsuc k) e f = lt-ltb k (256 ^ n / 2) (rw (← e) (f .sfits))
+
+-- An offset specification: none where it is not admitted, and one with a number.
+pub none-not-admitted : (admitsNone : Bool) → admitsNone ≡ false → writeOffset admitsNone None ≡ refuse valueNotAdmitted
+unfolding writeOffset
+none-not-admitted admitsNone h = rw h
+
+pub position-fits : (admitsNone : Bool) (x : ℕ) → x < 256 ^ 8 → writeOffset admitsNone (Offset x) ≡ wrote (digits 2 4 ++ digits 8 x)
+unfolding writeOffset
+position-fits admitsNone x h = rw (lt-leb (256 ^ 8) x h)
+
+pub timestamp-fits : (admitsNone : Bool) (z : ℤ) → fitsSigned 8 z ≡ true → writeOffset admitsNone (Timestamp z) ≡ wrote (digits 2 5 ++ digits 8 (two's.unsigned 8 z))
+unfolding writeOffset
+timestamp-fits admitsNone z h = rw h
+
+-- The bits of the timestamp are what is put.
+pub timestamp-bits : (z : ℤ) (v : ℕ) (s t : State) → fitsSigned 8 z ≡ true → v ≡ two's.unsigned 8 z → s ≡ step (wrote (digits 2 5 ++ digits 8 v)) (λ h. behind (digits 8 v) (behind (digits 2 5) h)) t → s ≡ stepField (specification false) [] (F.offset (Timestamp z)) t
+timestamp-bits z v s t f e i =
+    rw (timestamp-fits false z f) (i ∙ ap (λ (x : ℕ). step (wrote (digits 2 5 ++ digits 8 x)) (λ h. behind (digits 8 x) (behind (digits 2 5) h)) t) e)
+
+pub same-timestamp : (admitsNone : Bool) (z y : ℤ) (s t : State) → y ≡ z → s ≡ stepField (specification false) [] (F.offset (Timestamp y)) t → s ≡ stepField (specification admitsNone) [] (F.offset (Timestamp z)) t
+unfolding writeOffset
+same-timestamp admitsNone z y s t e i = i ∙ ap (λ (x : ℤ). stepField (specification false) [] (F.offset (Timestamp x)) t) e
+
+-- A length takes at most four bytes.
+pub narrow : (form : Form) → lengthWidth form ≤ 4
+narrow Text = lit≤ tt
+narrow Reference = lit≤ tt
+narrow Bytes = lit≤ tt
+
+-- A byte string that has a place.
+module _ (form : Form) (nullable : Bool) (src : List ℕ) (p : Place) where
+  pub string-long : 256 ^ lengthWidth form / 2 ≤ p .len → writeString form nullable src (some p) ≡ refuse badLength
+  unfolding writeString
+  string-long h = rw (le-leb _ _ h)
+
+  module _ (h : p .len < 256 ^ lengthWidth form / 2) where
+    pub string-over-limit : tooLong form (p .len) ≡ true → writeString form nullable src (some p) ≡ refuse referenceTooLong
+    unfolding writeString
+    string-over-limit t = rw (lt-leb _ _ h, t)
+
+    module _ (t : tooLong form (p .len) ≡ false) where
+      pub string-outside : outside p src ≡ true → writeString form nullable src (some p) ≡ refuse fieldCut
+      unfolding writeString
+      string-outside o = rw (lt-leb _ _ h, t, o)
+
+      module _ (o : outside p src ≡ false) where
+        pub string-not-text : isText form (bytesAt src p) ≡ false → writeString form nullable src (some p) ≡ refuse notUtf8
+        unfolding writeString
+        string-not-text u = rw (lt-leb _ _ h, t, o, u)
+
+        pub string-bytes : isText form (bytesAt src p) ≡ true → writeString form nullable src (some p) ≡ wrote (digits (lengthWidth form) (p .len) ++ bytesAt src p)
+        unfolding writeString
+        string-bytes u = rw (lt-leb _ _ h, t, o, u)
+
+-- A list.
+module _ (row : Row) (src : List ℕ) (n : ℕ) (p : Place) where
+  pub list-over : 0x8000_0000 ≤ n → writeList row src n p ≡ refuse badLength
+  unfolding writeList
+  list-over h = rw (le-leb _ _ h)
+
+  module _ (h : n < 0x8000_0000) where
+    pub list-outside : outside p src ≡ true → writeList row src n p ≡ refuse fieldCut
+    unfolding writeList
+    list-outside o = rw (lt-leb _ _ h, o)
+
+    module _ (o : outside p src ≡ false) (start c : Cursor) (b : start ≡ cursor 0 0 0) (e : c ≡ ends (readRow row) n (take (p .at + p .len - p .at) (drop (p .at) src)) start) where
+      pub list-refused : (c .refused ≡ 0 → ⊥) → writeList row src n p ≡ refuse (c .refused)
+      unfolding writeList
+      list-refused z = rw (lt-leb _ _ h, o) (pieces-refused (readRow row) (numbered-row row) n src p start c b e (wrote (digits 4 n ++ bytesAt src p)) z)
+
+      pub list-left : c .refused ≡ 0 → c .at < p .len → writeList row src n p ≡ refuse bytesLeft
+      unfolding writeList
+      list-left z l = rw (lt-leb _ _ h, o) (pieces-left (readRow row) (numbered-row row) n src p start c b e (wrote (digits 4 n ++ bytesAt src p)) z (ltb-false _ _ o) l)
+
+      pub list-bytes : c .refused ≡ 0 → p .len ≤ c .at → writeList row src n p ≡ wrote (digits 4 n ++ bytesAt src p)
+      unfolding writeList
+      list-bytes z l = rw (lt-leb _ _ h, o) (pieces-used (readRow row) (numbered-row row) n src p start c b e (wrote (digits 4 n ++ bytesAt src p)) z (ltb-false _ _ o) l)

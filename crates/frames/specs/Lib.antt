@@ -1,0 +1,2 @@
+-- What the answers of writing stand for.
+pub mod Written

@@ -1,0 +1,2 @@
+-- Why the window stays within its bounds.
+pub mod Fillings

@@ -1,0 +1,2 @@
+-- What the loops over a line have to show.
+mod Digits

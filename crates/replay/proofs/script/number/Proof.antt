@@ -1,0 +1,41 @@
+-- The invariant: what is left from the place reached makes the value what the whole makes it.
+use mathlib.Core.Path.{_≡_, refl, sym, _∙_}
+use Prim.Native.Nat.{_-_}
+use lib.ListN.{length, drop}
+use borrow.Author.Needs.{needs}
+use denote.Ref.{now}
+use Rattle.replay.specs.Numbers.{numberIn}
+use Rattle.replay.proofs.Digits.{number-more, number-stop, number-end}
+use Rattle.replay.proofs.script.number.Statement.{statement}
+use Rattle.replay.proofs.script.number.Tie as tie
+
+abbrev Inv-loop : tie.InvT-loop
+Inv-loop line from value₀ at₀ value at = numberIn 0 (drop from line) ≡ numberIn value (drop at line)
+
+abbrev μ-loop : tie.MeasureT-loop
+μ-loop line from value₀ at₀ value at = length line - at
+
+pub number-spec : {M : Type 1} → statement M
+number-spec =
+    tie.close
+    (tie.spec
+    Inv-loop
+    μ-loop
+    (λ c. refl)
+    (λ c. search needs)
+    (λ c κs. search needs)
+    (λ c. search needs)
+    (λ c κs. search needs)
+    (λ c. search needs)
+    (λ c. search needs)
+    (λ c. search needs)
+    (λ c. search needs)
+    (λ c. let l = c .before .before .before .before .before in
+    l .loop .inv
+    ∙ number-more (now (l .before .before .args .line)) (l .loop .at) (l .loop .value) (c .digit .result) (c .before .before .before .before .loop-test .taken) (sym (c .before .before .between .ensures) ∙ c .before .if1 .taken) (c .digit .ensures .0))
+    (λ c. let l = c .before .before .before .before in
+    sym
+    (l .loop .inv
+    ∙ number-stop (now (l .before .before .args .line)) (l .loop .at) (l .loop .value) (c .before .before .before .loop-test .taken) (sym (c .before .between .ensures) ∙ c .if1 .left)))
+    (λ c. let l = c .before in
+    sym (l .loop .inv ∙ number-end (now (l .before .before .args .line)) (l .loop .at) (l .loop .value) (c .loop-test .left))))

@@ -1,0 +1,2 @@
+-- What the parts of a script's line say.
+pub mod Numbers

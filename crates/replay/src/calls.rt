@@ -1,0 +1,46 @@
+// A call for each line.
+use crate::answers;
+use crate::script;
+use crate::script::Word;
+
+pub fn replay(text: &[u8]) {
+    let mut credits = credit::empty();
+    let mut publishers = publisher::empty();
+    let mut at: usize = 0;
+    while at < text.len() {
+        let end = bytes::scan::find(text, at, text.len(), 0x0a);
+        call(&text[at..end], &mut credits, &mut publishers);
+        at = end + 1;
+    }
+}
+
+fn call(line: &[u8], credits: &mut [u32; 257], publishers: &mut [u32; 257]) {
+    let first = script::behind(line, 0);
+    let second = script::behind(line, first);
+    let n = script::number(line, first);
+    let id = (n % 256) as u8;
+    let more = script::number(line, second);
+    match script::first_word(line) {
+        Word::Open => answers::change(credit::open(credits, id, (more % 65536) as u16)),
+        Word::Grant => answers::change(credit::grant(credits, id, (more % 65536) as u16)),
+        Word::Close => answers::change(credit::close(credits, id)),
+        Word::Receive => receive(line, credits, (n % 4294967296) as u32, second),
+        Word::Credit => answers::state(credit::state(credits, id)),
+        Word::Declare => answers::change(publisher::declare(publishers, id)),
+        Word::Delete => answers::change(publisher::delete(publishers, id)),
+        Word::Send => answers::change(publisher::send(publishers, id, (more % 4294967296) as u32)),
+        Word::Confirm => answers::change(publisher::confirm(
+            publishers,
+            id,
+            (more % 4294967296) as u32,
+        )),
+        Word::Out => answers::state(publisher::state(publishers, id)),
+        Word::Unknown => answers::comment(line),
+    }
+}
+
+fn receive(line: &[u8], credits: &mut [u32; 257], limit: u32, from: usize) {
+    let mut buffer = io::buffer();
+    let n = script::hex(line, from, &mut buffer);
+    answers::received(credit::receive(credits, &buffer[..n], limit));
+}
