@@ -1,11 +1,14 @@
 -- What the answers to questions say, in the terms of the rules.
 use mathlib.Core.Bool.{cond}
+use mathlib.Core.Path.{_≡_}
 use mathlib.Core.List.{List, [], _∷_, map}
 use Prim.Native.Nat.{ℕ, _+_, _<_}
 use lib.Dec.{eqb}
 use Rattle.protocol.specs.Fields.{Field, number, integer, overPlaces, further}
 use Rattle.protocol.specs.Frames.{placeField, nullableField, listField}
 use Rattle.protocol.specs.Kinds.{Row}
+use Rattle.protocol.specs.declared.kind.Element as kind
+use Rattle.protocol.specs.declared.kind.Element.the-variants as kinds
 use Rattle.protocol.specs.declared.place.NullablePlace.{NullablePlace}
 use Rattle.protocol.specs.declared.place.NullablePlace.the-variants.{Null, At}
 use Rattle.protocol.specs.declared.place.Place.{Place}
@@ -34,6 +37,24 @@ elementFields (Broker reference host port) = number reference ∷ placeField hos
 elementFields (StreamMetadata stream code leader replicas) = placeField stream ∷ number code ∷ number leader ∷ listField replicas ∷ []
 elementFields (Statistic key value) = placeField key ∷ integer value ∷ []
 elementFields (BrokerReference reference) = number reference ∷ []
+
+-- The kind of each case of the typed element, and that an element handed back is of the kind that was asked for.
+abbrev pub kindOf : ListElement → kind.Element
+kindOf (Message id message) = kinds.Message
+kindOf (FilteredMessage id filter message) = kinds.FilteredMessage
+kindOf (PublishingId id) = kinds.PublishingId
+kindOf (PublishingError id code) = kinds.PublishingError
+kindOf (Property key value) = kinds.Property
+kindOf (Name name) = kinds.Name
+kindOf (CommandVersions key least most) = kinds.CommandVersions
+kindOf (Broker reference host port) = kinds.Broker
+kindOf (StreamMetadata stream code leader replicas) = kinds.StreamMetadata
+kindOf (Statistic key value) = kinds.Statistic
+kindOf (BrokerReference reference) = kinds.BrokerReference
+
+abbrev pub OfElement : kind.Element → AskedElement → Type 0
+OfElement k (Element e) = kindOf e ≡ k
+OfElement k (Refused n) = Unit
 
 -- What each answer says: the element's fields, or the refusal's number.
 abbrev pub elementAnswer : AskedElement → Asked (List (Field Place))

@@ -8,7 +8,7 @@ ghost use Rattle.protocol.specs.Kinds.{elementRow};
 ghost use Rattle.protocol.specs.declared.kind.Element.the-variants.{Message, FilteredMessage, PublishingId, PublishingError, Property, Name, CommandVersions, Broker, StreamMetadata, Statistic, BrokerReference};
 ghost use Rattle.rules.specs.Elements.{elementAt, numberOf, readNth};
 ghost use Rattle.rules.specs.Reading.{readRow};
-ghost use Rattle.elements.specs.Answer.{elementAnswer, elementFields, elementFrom, elementOf, ended, NullableFits};
+ghost use Rattle.elements.specs.Answer.{elementAnswer, elementFields, elementFrom, elementOf, ended, kindOf, NullableFits, OfElement};
 use crate::list_element::AskedElement;
 use crate::list_element::ListElement;
 use crate::parts::is_outside;
@@ -31,6 +31,7 @@ use protocol::refusal;
 // The place outside the source (6), the index at or above the count (10), then the elements up to the one asked for.
 pub fn element(kind: Element, s: &[u8], list: Elements, index: usize) -> AskedElement
     ensures { λ r. ⌜ elementAnswer r ≡ elementAt (elementRow kind) (now (s .entry)) (list .count) (list .place) index ⌝ }
+    ensures { λ r. ⌜ OfElement kind r ⌝ }
 {
     let place = list.place;
     if is_outside(s, place) {
@@ -58,6 +59,7 @@ pub fn element_refusal(kind: Element, s: &[u8], list: Elements, index: usize) ->
 fn nth_element(kind: Element, part: &[u8], base: usize, index: usize) -> AskedElement
     requires { ⌜ base + length (now part) < 0x8000_0000_0000_0000 ⌝ }
     ensures { λ r. ⌜ elementAnswer r ≡ elementOf base (readNth (readRow (elementRow kind)) index (now (part .entry))) ⌝ }
+    ensures { λ r. ⌜ OfElement kind r ⌝ }
 {
     let c = skip_elements(part, Cursor::within(0), kind, index);
     read_element(kind, part, c, base)
@@ -67,6 +69,7 @@ fn nth_element(kind: Element, part: &[u8], base: usize, index: usize) -> AskedEl
 fn read_element(kind: Element, s: &[u8], c: Cursor, base: usize) -> AskedElement
     requires { ⌜ base + length (now s) < 0x8000_0000_0000_0000 ⌝ }
     ensures { λ r. ⌜ elementAnswer r ≡ elementFrom (elementRow kind) (now (s .entry)) c base ⌝ }
+    ensures { λ r. ⌜ OfElement kind r ⌝ }
 {
     match kind {
         Element::Message => message(s, c, base),
@@ -86,6 +89,7 @@ fn read_element(kind: Element, s: &[u8], c: Cursor, base: usize) -> AskedElement
 fn message(s: &[u8], c: Cursor, base: usize) -> AskedElement
     requires { ⌜ base + length (now s) < 0x8000_0000_0000_0000 ⌝ }
     ensures { λ r. ⌜ elementAnswer r ≡ elementFrom (elementRow Message) (now (s .entry)) c base ⌝ }
+    ensures { λ r. ⌜ OfElement Message r ⌝ }
 {
     let read = u64_field(s, c);
     let publishing_id = read.value;
@@ -103,6 +107,7 @@ fn message(s: &[u8], c: Cursor, base: usize) -> AskedElement
 fn filtered_message(s: &[u8], c: Cursor, base: usize) -> AskedElement
     requires { ⌜ base + length (now s) < 0x8000_0000_0000_0000 ⌝ }
     ensures { λ r. ⌜ elementAnswer r ≡ elementFrom (elementRow FilteredMessage) (now (s .entry)) c base ⌝ }
+    ensures { λ r. ⌜ OfElement FilteredMessage r ⌝ }
 {
     let read = u64_field(s, c);
     let publishing_id = read.value;
@@ -124,6 +129,7 @@ fn filtered_message(s: &[u8], c: Cursor, base: usize) -> AskedElement
 
 fn publishing_id(s: &[u8], c: Cursor, base: usize) -> AskedElement
     ensures { λ r. ⌜ elementAnswer r ≡ elementFrom (elementRow PublishingId) (now (s .entry)) c base ⌝ }
+    ensures { λ r. ⌜ OfElement PublishingId r ⌝ }
 {
     let read = u64_field(s, c);
     let publishing_id = read.value;
@@ -134,6 +140,7 @@ fn publishing_id(s: &[u8], c: Cursor, base: usize) -> AskedElement
 
 fn publishing_error(s: &[u8], c: Cursor, base: usize) -> AskedElement
     ensures { λ r. ⌜ elementAnswer r ≡ elementFrom (elementRow PublishingError) (now (s .entry)) c base ⌝ }
+    ensures { λ r. ⌜ OfElement PublishingError r ⌝ }
 {
     let read = u64_field(s, c);
     let publishing_id = read.value;
@@ -151,6 +158,7 @@ fn publishing_error(s: &[u8], c: Cursor, base: usize) -> AskedElement
 fn property(s: &[u8], c: Cursor, base: usize) -> AskedElement
     requires { ⌜ base + length (now s) < 0x8000_0000_0000_0000 ⌝ }
     ensures { λ r. ⌜ elementAnswer r ≡ elementFrom (elementRow Property) (now (s .entry)) c base ⌝ }
+    ensures { λ r. ⌜ OfElement Property r ⌝ }
 {
     let read = string_field(s, c, Form::Text);
     let key = place_from(base, read.value);
@@ -165,6 +173,7 @@ fn property(s: &[u8], c: Cursor, base: usize) -> AskedElement
 fn name(s: &[u8], c: Cursor, base: usize) -> AskedElement
     requires { ⌜ base + length (now s) < 0x8000_0000_0000_0000 ⌝ }
     ensures { λ r. ⌜ elementAnswer r ≡ elementFrom (elementRow Name) (now (s .entry)) c base ⌝ }
+    ensures { λ r. ⌜ OfElement Name r ⌝ }
 {
     let read = string_field(s, c, Form::Text);
     let name = place_from(base, read.value);
@@ -175,6 +184,7 @@ fn name(s: &[u8], c: Cursor, base: usize) -> AskedElement
 
 fn command_versions(s: &[u8], c: Cursor, base: usize) -> AskedElement
     ensures { λ r. ⌜ elementAnswer r ≡ elementFrom (elementRow CommandVersions) (now (s .entry)) c base ⌝ }
+    ensures { λ r. ⌜ OfElement CommandVersions r ⌝ }
 {
     let read = u16_field(s, c);
     let key = read.value;
@@ -196,6 +206,7 @@ fn command_versions(s: &[u8], c: Cursor, base: usize) -> AskedElement
 fn broker(s: &[u8], c: Cursor, base: usize) -> AskedElement
     requires { ⌜ base + length (now s) < 0x8000_0000_0000_0000 ⌝ }
     ensures { λ r. ⌜ elementAnswer r ≡ elementFrom (elementRow Broker) (now (s .entry)) c base ⌝ }
+    ensures { λ r. ⌜ OfElement Broker r ⌝ }
 {
     let read = u16_field(s, c);
     let reference = read.value;
@@ -217,6 +228,7 @@ fn broker(s: &[u8], c: Cursor, base: usize) -> AskedElement
 fn stream_metadata(s: &[u8], c: Cursor, base: usize) -> AskedElement
     requires { ⌜ base + length (now s) < 0x8000_0000_0000_0000 ⌝ }
     ensures { λ r. ⌜ elementAnswer r ≡ elementFrom (elementRow StreamMetadata) (now (s .entry)) c base ⌝ }
+    ensures { λ r. ⌜ OfElement StreamMetadata r ⌝ }
 {
     let read = string_field(s, c, Form::Text);
     let stream = place_from(base, read.value);
@@ -242,6 +254,7 @@ fn stream_metadata(s: &[u8], c: Cursor, base: usize) -> AskedElement
 fn statistic(s: &[u8], c: Cursor, base: usize) -> AskedElement
     requires { ⌜ base + length (now s) < 0x8000_0000_0000_0000 ⌝ }
     ensures { λ r. ⌜ elementAnswer r ≡ elementFrom (elementRow Statistic) (now (s .entry)) c base ⌝ }
+    ensures { λ r. ⌜ OfElement Statistic r ⌝ }
 {
     let read = string_field(s, c, Form::Text);
     let key = place_from(base, read.value);
@@ -255,6 +268,7 @@ fn statistic(s: &[u8], c: Cursor, base: usize) -> AskedElement
 
 fn broker_reference(s: &[u8], c: Cursor, base: usize) -> AskedElement
     ensures { λ r. ⌜ elementAnswer r ≡ elementFrom (elementRow BrokerReference) (now (s .entry)) c base ⌝ }
+    ensures { λ r. ⌜ OfElement BrokerReference r ⌝ }
 {
     let read = u16_field(s, c);
     let reference = read.value;
@@ -266,6 +280,7 @@ fn broker_reference(s: &[u8], c: Cursor, base: usize) -> AskedElement
 // Behind the last field: the first refusal, or the element.
 fn answer(c: Cursor, element: ListElement) -> AskedElement
     ensures { λ r. ⌜ elementAnswer r ≡ ended c (elementFields element) ⌝ }
+    ensures { λ r. ⌜ OfElement (kindOf element) r ⌝ }
 {
     let number = c.refused;
     if number != 0 {

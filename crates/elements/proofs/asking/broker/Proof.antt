@@ -21,4 +21,4 @@ broker-spec =
     let port = c .before .before in
     let host = port .before .before .before in
     let reference = host .before .before in
-    rw (port .before .before .place-from .ensures) at (c .answer .ensures) ∙ whole-element _ (link (reference .u16-field .ensures) (link (host .string-field .ensures) (link (port .u32-field .ensures) done)))))
+    (rw (port .before .before .place-from .ensures) at (c .answer .ensures .0) ∙ whole-element _ (link (reference .u16-field .ensures) (link (host .string-field .ensures) (link (port .u32-field .ensures) done))), c .answer .ensures .1)))

@@ -14,4 +14,4 @@ broker-reference-spec =
     (λ c κs. search needs)
     (λ c.
     let reference = c .before .before in
-    c .answer .ensures ∙ whole-element _ (link (reference .u16-field .ensures) done)))
+    (c .answer .ensures .0 ∙ whole-element _ (link (reference .u16-field .ensures) done), c .answer .ensures .1)))

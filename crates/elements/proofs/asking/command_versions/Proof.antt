@@ -18,4 +18,4 @@ command-versions-spec =
     let max-version = c .before .before in
     let min-version = max-version .before .before in
     let key = min-version .before .before in
-    c .answer .ensures ∙ whole-element _ (link (key .u16-field .ensures) (link (min-version .u16-field2 .ensures) (link (max-version .u16-field3 .ensures) done)))))
+    (c .answer .ensures .0 ∙ whole-element _ (link (key .u16-field .ensures) (link (min-version .u16-field2 .ensures) (link (max-version .u16-field3 .ensures) done))), c .answer .ensures .1)))

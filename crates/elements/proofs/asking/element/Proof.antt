@@ -12,8 +12,8 @@ element-spec =
     tie.close
     (tie.spec
     (λ c κs. search needs)
-    (λ c. element-outside _ _ _ _ _ (sym (c .before .is-outside .ensures) ∙ c .if1 .taken))
-    (λ c. element-beyond _ _ _ _ _ (sym (c .before .before .before .is-outside .ensures) ∙ c .before .before .if1 .left) (c .if2 .taken))
+    (λ c. (element-outside _ _ _ _ _ (sym (c .before .is-outside .ensures) ∙ c .if1 .taken), tt))
+    (λ c. (element-beyond _ _ _ _ _ (sym (c .before .before .before .is-outside .ensures) ∙ c .before .before .if1 .left) (c .if2 .taken), tt))
     (λ c.
     let inside = c .before .before .before in
     let start = inside .before .before .before .before in
@@ -31,4 +31,4 @@ element-spec =
     (λ c.
     let inside = c .before .before .before .before .before in
     let start = inside .before .before .before .before in
-    element-there _ _ _ _ _ (sym (inside .before .is-outside .ensures) ∙ inside .if1 .left) _ (c .before .before .before .if2 .left) (c .nth-element .ensures)))
+    (element-there _ _ _ _ _ (sym (inside .before .is-outside .ensures) ∙ inside .if1 .left) _ (c .before .before .before .if2 .left) (c .nth-element .ensures .0), c .nth-element .ensures .1)))

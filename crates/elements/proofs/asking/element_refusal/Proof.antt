@@ -13,5 +13,5 @@ element-refusal-spec =
     (λ c κs. search needs)
     (λ c. search needs)
     (λ c. search needs)
-    (λ c. ap numberOf (ap elementAnswer (sym (c .enum-told .given .1)) ∙ c .before .before .element .ensures))
-    (λ c. ap numberOf (ap elementAnswer (sym (c .before .number .given .1)) ∙ c .before .before .before .element .ensures)))
+    (λ c. ap numberOf (ap elementAnswer (sym (c .enum-told .given .1)) ∙ c .before .before .element .ensures .0))
+    (λ c. ap numberOf (ap elementAnswer (sym (c .before .number .given .1)) ∙ c .before .before .before .element .ensures .0)))

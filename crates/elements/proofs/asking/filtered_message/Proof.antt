@@ -22,4 +22,4 @@ filtered-message-spec =
     let message = c .before .before .before in
     let filter-value = message .before .before .before in
     let publishing-id = filter-value .before .before in
-    rw (message .before .before .nullable-from .ensures, c .before .before .place-from .ensures) at (c .answer .ensures) ∙ whole-element _ (link (publishing-id .u64-field .ensures) (link (filter-value .nullable-field .ensures) (link (message .string-field .ensures) done)))))
+    (rw (message .before .before .nullable-from .ensures, c .before .before .place-from .ensures) at (c .answer .ensures .0) ∙ whole-element _ (link (publishing-id .u64-field .ensures) (link (filter-value .nullable-field .ensures) (link (message .string-field .ensures) done))), c .answer .ensures .1)))

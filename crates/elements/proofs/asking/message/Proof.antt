@@ -19,4 +19,4 @@ message-spec =
     (λ c.
     let message = c .before .before .before in
     let publishing-id = message .before .before in
-    rw (c .before .before .place-from .ensures) at (c .answer .ensures) ∙ whole-element _ (link (publishing-id .u64-field .ensures) (link (message .string-field .ensures) done))))
+    (rw (c .before .before .place-from .ensures) at (c .answer .ensures .0) ∙ whole-element _ (link (publishing-id .u64-field .ensures) (link (message .string-field .ensures) done)), c .answer .ensures .1)))

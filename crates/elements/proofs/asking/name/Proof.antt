@@ -17,4 +17,4 @@ name-spec =
     (λ c κs. search needs)
     (λ c.
     let name = c .before .before .before in
-    rw (c .before .before .place-from .ensures) at (c .answer .ensures) ∙ whole-element _ (link (name .string-field .ensures) done)))
+    (rw (c .before .before .place-from .ensures) at (c .answer .ensures .0) ∙ whole-element _ (link (name .string-field .ensures) done), c .answer .ensures .1)))

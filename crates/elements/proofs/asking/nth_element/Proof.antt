@@ -11,4 +11,4 @@ nth-element-spec =
     (λ c κs. search needs)
     (λ c κs. search needs)
     (λ c κs. search needs)
-    (λ c. nth-element-is _ _ _ _ _ _ _ (c .before .before .within .ensures) (c .before .skip-elements .ensures) (c .read-element .ensures)))
+    (λ c. (nth-element-is _ _ _ _ _ _ _ (c .before .before .within .ensures) (c .before .skip-elements .ensures) (c .read-element .ensures .0), c .read-element .ensures .1)))

@@ -20,4 +20,4 @@ property-spec =
     (λ c.
     let value = c .before .before .before in
     let key = value .before .before .before in
-    rw (value .before .before .place-from .ensures, c .before .before .place-from2 .ensures) at (c .answer .ensures) ∙ whole-element _ (link (key .string-field .ensures) (link (value .string-field2 .ensures) done))))
+    (rw (value .before .before .place-from .ensures, c .before .before .place-from2 .ensures) at (c .answer .ensures .0) ∙ whole-element _ (link (key .string-field .ensures) (link (value .string-field2 .ensures) done)), c .answer .ensures .1)))

@@ -16,4 +16,4 @@ publishing-error-spec =
     (λ c.
     let code = c .before .before in
     let publishing-id = code .before .before in
-    c .answer .ensures ∙ whole-element _ (link (publishing-id .u64-field .ensures) (link (code .u16-field .ensures) done))))
+    (c .answer .ensures .0 ∙ whole-element _ (link (publishing-id .u64-field .ensures) (link (code .u16-field .ensures) done)), c .answer .ensures .1)))

@@ -14,4 +14,4 @@ publishing-id-spec =
     (λ c κs. search needs)
     (λ c.
     let publishing-id = c .before .before in
-    c .answer .ensures ∙ whole-element _ (link (publishing-id .u64-field .ensures) done)))
+    (c .answer .ensures .0 ∙ whole-element _ (link (publishing-id .u64-field .ensures) done), c .answer .ensures .1)))

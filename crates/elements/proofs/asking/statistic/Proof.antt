@@ -22,4 +22,4 @@ statistic-spec =
     (λ c.
     let value = c .before .before .before in
     let key = value .before .before .before in
-    rw (value .before .before .place-from .ensures, toZ-ofZ {w = w64} (sfits-of (value .i64-field .ok .1 .1 .0 .1))) at (c .answer .ensures) ∙ whole-element _ (link (key .string-field .ensures) (link (value .i64-field .ensures) done))))
+    (rw (value .before .before .place-from .ensures, toZ-ofZ {w = w64} (sfits-of (value .i64-field .ok .1 .1 .0 .1))) at (c .answer .ensures .0) ∙ whole-element _ (link (key .string-field .ensures) (link (value .i64-field .ensures) done)), c .answer .ensures .1)))

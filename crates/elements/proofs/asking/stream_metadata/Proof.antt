@@ -27,4 +27,4 @@ stream-metadata-spec =
     let leader = replicas .before .before in
     let code = leader .before .before in
     let stream = code .before .before .before in
-    rw (code .before .before .place-from .ensures, c .before .before .list-from .ensures) at (c .answer .ensures) ∙ whole-element _ (link (stream .string-field .ensures) (link (code .u16-field .ensures) (link (leader .u16-field2 .ensures) (link (replicas .list-field .ensures) done))))))
+    (rw (code .before .before .place-from .ensures, c .before .before .list-from .ensures) at (c .answer .ensures .0) ∙ whole-element _ (link (stream .string-field .ensures) (link (code .u16-field .ensures) (link (leader .u16-field2 .ensures) (link (replicas .list-field .ensures) done)))), c .answer .ensures .1)))

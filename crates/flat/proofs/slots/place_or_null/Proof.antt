@@ -1,0 +1,17 @@
+-- By the case.
+use mathlib.Core.Path.{sym, ap}
+use Rattle.protocol.specs.Frames.{nullableField}
+use Rattle.protocol.specs.declared.place.NullablePlace.{NullablePlace}
+use Rattle.flat.specs.Flat.{flatOctets}
+use borrow.Author.Needs.{needs}
+use Rattle.flat.proofs.slots.place_or_null.Statement.{statement}
+use Rattle.flat.proofs.slots.place_or_null.Tie as tie
+
+pub place-or-null-spec : {M : Type 1} → statement M
+place-or-null-spec =
+    tie.close
+    (tie.spec
+    (λ c. search needs)
+    (λ c. search needs)
+    (λ c. sym (ap (λ (x : NullablePlace). flatOctets (nullableField x .octets)) (c .enum-told .given .1)))
+    (λ c. sym (ap (λ (x : NullablePlace). flatOctets (nullableField x .octets)) (c .before .o .given .1))))

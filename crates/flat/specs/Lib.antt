@@ -1,0 +1,4 @@
+-- Flat frames and elements.
+pub mod Flat
+pub mod Unflat
+pub mod Inverse

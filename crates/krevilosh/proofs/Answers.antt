@@ -1,0 +1,103 @@
+-- Each answer of a layer below, as the number and the slots that the host gets. A frame's Size has four bytes, so what a
+-- frame needs is bounded. Assumes nothing.
+use mathlib.Core.Path.{_≡_, refl, sym, subst}
+use mathlib.Core.Bool.{Bool}
+use mathlib.Core.List.{List}
+use mathlib.Core.Option.{Option, none, some}
+use Prim.Native.Nat.{ℕ, _+_, _≤_, _<_}
+use native.Mathlib.Omega.{arith}
+use lib.Dec.{ltb, lit≤}
+use lib.ListN.{length}
+use Rattle.wire.proofs.Widths.{integers}
+use Rattle.wire.specs.Integers.{bigEndian, Bytes}
+use Rattle.protocol.specs.Decision.{Decision, layout, unlistedKey, unlistedVersion, decide}
+use Rattle.protocol.specs.Fields.{Field, Fields}
+use Rattle.protocol.specs.Refusals.{noCredit}
+use Rattle.protocol.specs.Table.{rowOf}
+use Rattle.protocol.specs.declared.place.Place.{Place}
+use Rattle.rules.proofs.Gives.{choice}
+use Rattle.rules.specs.Outcome.{Outcome, got, refused}
+use Rattle.rules.specs.Reading.{Reading, readingOf, readContent, readLayout, readDecided, overLimit, readSized, readFrame}
+use Rattle.rules.specs.Reading as rules
+use Rattle.ledger.specs.Calls.{take, answerBy}
+use Rattle.ledger.specs.Calls as calls
+use Rattle.ledger.specs.Rules.{refusal, entryAt, answerTo}
+use Rattle.credit.specs.Calls.{received, nothing, frame, number, short, unread, Says, readAnswer, deliverId}
+use Rattle.credit.specs.Step.{answer, actOnFrame, actOnReading}
+use Rattle.krevilosh.specs.Answer.{readNumber, readSlots, NeededFits, orZero, creditNumber, creditSlots, publisherNumber}
+
+-- ---- The bytes needed
+
+longest : (n : ℕ) → n < 4294967296 → n + 4 ≤ 4294967299
+longest n h = omega (arith, h)
+
+pub fits-above : (n : ℕ) → n ≤ 4294967299 → n < 0x100_0000_0000_0000
+fits-above n h = omega (arith, h)
+
+of-outcome : (k v : ℕ) (o : Outcome (List (Field Place))) → NeededFits (readingOf k v o)
+of-outcome k v (got fs behind) = tt
+of-outcome k v (refused n at) = tt
+
+decided : (d : Decision) (content : List ℕ) → NeededFits (readDecided d content)
+unfolding readDecided readLayout
+decided (layout k v) content = of-outcome k v (readContent (rowOf k v) content)
+decided unlistedKey content = tt
+decided unlistedVersion content = tt
+
+pub needed-fits : (s : List ℕ) (limit : ℕ) → Bytes s → NeededFits (readFrame s limit)
+unfolding readFrame readSized
+needed-fits s limit b =
+    choice (λ r. NeededFits r) (ltb (length s) 4) _ _ (λ _. lit≤ tt) (λ _.
+    choice (λ r. NeededFits r) (overLimit limit (bigEndian 4 s 0)) _ _ (λ _. tt) (λ _.
+    choice (λ r. NeededFits r) (ltb (bigEndian 4 s 0) 4) _ _ (λ _. tt) (λ _.
+    choice (λ r. NeededFits r) (ltb (length s) (bigEndian 4 s 0 + 4)) _ _ (λ _. longest (bigEndian 4 s 0) (integers 4 .range s 0 b)) (λ _.
+    decided (decide (bigEndian 2 s 4) (bigEndian 2 s 6)) _))))
+
+-- ---- The answers of the ledgers
+
+pub credit-changed : (o : Option ℕ) → orZero o ≡ creditNumber (answerBy number o nothing)
+credit-changed none = refl
+credit-changed (some n) = refl
+
+pub publisher-changed : (o : Option ℕ) → orZero o ≡ publisherNumber (answerBy (λ n. n) o tt)
+publisher-changed none = refl
+publisher-changed (some n) = refl
+
+pub read-number : (r : Reading) → readNumber r ≡ creditNumber (readAnswer r)
+read-number (rules.frame f) = refl
+read-number (rules.short needed) = refl
+read-number (rules.refusal n place) = refl
+
+pub read-slots : (old : List ℕ) (r : Reading) → readSlots old r ≡ creditSlots old (readAnswer r)
+read-slots old (rules.frame f) = refl
+read-slots old (rules.short needed) = refl
+read-slots old (rules.refusal n place) = refl
+
+abbrev SaysFits : Says → Type 0
+SaysFits (calls.accepted y) = Unit
+SaysFits (calls.refused (number n)) = Unit
+SaysFits (calls.refused (short needed)) = needed ≤ 4294967299
+SaysFits (calls.refused (unread n place)) = Unit
+
+taken : (o : Option ℕ) (f : Fields Place) → SaysFits (answerBy number o (frame f))
+taken none f = tt
+taken (some n) f = tt
+
+of-frame : (l : List ℕ) (o : Option ℕ) (f : Fields Place) → SaysFits (answerTo number l (actOnFrame o f))
+of-frame l (some i) f = taken (refusal (take 1 noCredit) (entryAt l i)) f
+of-frame l none f = tt
+
+of-reading : (l : List ℕ) (r : Reading) → NeededFits r → SaysFits (answerTo number l (actOnReading r))
+of-reading l (rules.frame f) h = of-frame l (deliverId f) f
+of-reading l (rules.short needed) h = h
+of-reading l (rules.refusal n place) h = tt
+
+of-says : (r : Reading) → SaysFits (readAnswer r) → NeededFits r
+of-says (rules.frame f) h = tt
+of-says (rules.short needed) h = h
+of-says (rules.refusal n place) h = tt
+
+-- What reading answers through the credit ledger.
+pub received-fits : (l s : List ℕ) (limit : ℕ) (r : Reading) → Bytes s → readAnswer r ≡ answer l (received s limit) → NeededFits r
+received-fits l s limit r b e =
+    of-says r (subst (λ (x : Says). SaysFits x) (sym e) (of-reading l (readFrame s limit) (needed-fits s limit b)))

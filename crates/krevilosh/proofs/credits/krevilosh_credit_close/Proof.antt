@@ -1,0 +1,17 @@
+-- The number of what the ledger answers.
+use mathlib.Core.Path.{_∙_, ap}
+use Rattle.ledger.specs.Answers.{numberOf}
+use Rattle.credit.specs.Calls.{Says}
+use Rattle.krevilosh.specs.Answer.{creditNumber}
+use Rattle.krevilosh.proofs.Answers.{credit-changed}
+use borrow.Author.Needs.{needs}
+use Rattle.krevilosh.proofs.credits.krevilosh_credit_close.Statement.{statement}
+use Rattle.krevilosh.proofs.credits.krevilosh_credit_close.Tie as tie
+
+pub krevilosh-credit-close-spec : {M : Type 1} → statement M
+krevilosh-credit-close-spec =
+    tie.close
+    (tie.spec
+    (λ c κs. search needs)
+    (λ c κs. search needs)
+    (λ c. (c .changed .ensures ∙ credit-changed (numberOf (c .before .close .result)) ∙ ap (λ (x : Says). creditNumber x) (c .before .close .ensures .0), c .before .close .ensures .1)))

@@ -1,0 +1,17 @@
+-- The number of what the ledger answers.
+use mathlib.Core.Path.{_∙_, ap}
+use Rattle.ledger.specs.Answers.{numberOf}
+use Rattle.credit.specs.Calls.{Says}
+use Rattle.krevilosh.specs.Answer.{creditNumber}
+use Rattle.krevilosh.proofs.Answers.{credit-changed}
+use borrow.Author.Needs.{needs}
+use Rattle.krevilosh.proofs.credits.krevilosh_credit_grant.Statement.{statement}
+use Rattle.krevilosh.proofs.credits.krevilosh_credit_grant.Tie as tie
+
+pub krevilosh-credit-grant-spec : {M : Type 1} → statement M
+krevilosh-credit-grant-spec =
+    tie.close
+    (tie.spec
+    (λ c κs. search needs)
+    (λ c κs. search needs)
+    (λ c. (c .changed .ensures ∙ credit-changed (numberOf (c .before .grant .result)) ∙ ap (λ (x : Says). creditNumber x) (c .before .grant .ensures .0), c .before .grant .ensures .1)))

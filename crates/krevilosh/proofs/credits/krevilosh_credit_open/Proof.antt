@@ -1,0 +1,17 @@
+-- The number of what the ledger answers.
+use mathlib.Core.Path.{_∙_, ap}
+use Rattle.ledger.specs.Answers.{numberOf}
+use Rattle.credit.specs.Calls.{Says}
+use Rattle.krevilosh.specs.Answer.{creditNumber}
+use Rattle.krevilosh.proofs.Answers.{credit-changed}
+use borrow.Author.Needs.{needs}
+use Rattle.krevilosh.proofs.credits.krevilosh_credit_open.Statement.{statement}
+use Rattle.krevilosh.proofs.credits.krevilosh_credit_open.Tie as tie
+
+pub krevilosh-credit-open-spec : {M : Type 1} → statement M
+krevilosh-credit-open-spec =
+    tie.close
+    (tie.spec
+    (λ c κs. search needs)
+    (λ c κs. search needs)
+    (λ c. (c .changed .ensures ∙ credit-changed (numberOf (c .before .«open» .result)) ∙ ap (λ (x : Says). creditNumber x) (c .before .«open» .ensures .0), c .before .«open» .ensures .1)))

@@ -1,0 +1,4 @@
+-- What the functions that the host calls hand back.
+pub mod Answer
+pub mod Asked
+pub mod Shapes
