@@ -231,12 +231,12 @@ def read_frame(data, limit):
         raise Refused(4, 4)
     if (key, version) not in LAYOUTS:
         raise Refused(5, 6)
-    name, kinds = LAYOUTS[key, version]
+    _, kinds = LAYOUTS[key, version]
     reader = Reader(data[: size + 4])
     told = [reader.field(kind) for kind in kinds]
     if reader.left() > 0:
         raise Refused(11, reader.at)
-    return " ".join(["frame %04x %d %d" % (key, version, size + 4), name] + told)
+    return " ".join(["frame %04x %d %d %04x%04x" % (key, version, size + 4, key, version)] + told)
 
 
 # ---- Vectors --------------------------------------------------------------------------------------------------------
@@ -261,7 +261,10 @@ def vector(name, data, limit=0):
         cuts = [read(data[:n], limit) for n in range(whole)]
         assert cuts == ["short 4"] * 4 + ["short %d" % whole] * (whole - 4)
         STDOUT.append("%s cuts 4 %d\n" % (name, whole - 4))
-        STDOUT.append("%s longer %s\n" % (name, read(data + b"\0", limit)))
+        assert read(data + b"\xff", limit) == answer
+    longer = read(data + b"\xff", limit)
+    if longer.startswith("frame"):
+        STDOUT.append("%s longer %s\n" % (name, longer))
 
 
 def number(width, n):
@@ -346,7 +349,7 @@ for (key, version), (name, kinds) in LAYOUTS.items():
     vector(name + "-least", frame(key, b"".join(map(least, kinds)), version))
     vector(name + "-byte-too-many", with_size(whole + b"\x00"))
     vector(name + "-byte-too-few", with_size(whole[:-1]))
-    vector(name + "-unknown-version", frame(key, whole[8:], 3 if version == 2 else 2 if (key, 2) not in LAYOUTS else 0))
+    vector(name + "-unknown-version", frame(key, b"", 3 if version == 2 else 2 if (key, 2) not in LAYOUTS else 0))
 
 # The marked cases A to L of 01.
 vector("case-a-heartbeat", bytes.fromhex("0000000400170001"))

@@ -6,17 +6,26 @@ use crate::text;
 use fields::Cursor;
 use layouts::Reading;
 
-// The first n bytes of space are the vector's.
-pub fn run(name: &[u8], limit: u32, space: &[u8], n: usize) {
-    if space.len() <= n {
-        return;
-    }
+pub fn run(name: &[u8], limit: u32, bytes: &[u8]) {
     text::word(name);
-    print(&space[..n], frames::read(&space[..n], limit));
-    match frames::read(&space[..n], limit) {
-        Reading::Frame(_) => {
-            cuts(name, limit, &space[..n]);
-            longer(name, limit, &space[..n + 1]);
+    print(bytes, frames::read(bytes, limit));
+    match frames::read(bytes, limit) {
+        Reading::Frame(_) => cuts(name, limit, bytes),
+        Reading::Short { needed: _ } => {}
+        Reading::Refused {
+            number: _,
+            place: _,
+        } => {}
+    }
+}
+
+// With one byte more behind the vector: printed if that is a frame. A byte behind a frame plays no part.
+pub fn longer(name: &[u8], limit: u32, bytes: &[u8]) {
+    match frames::read(bytes, limit) {
+        Reading::Frame(frame) => {
+            text::word(name);
+            text::word(b" longer");
+            print(bytes, Reading::Frame(frame));
         }
         Reading::Short { needed: _ } => {}
         Reading::Refused {
@@ -71,23 +80,24 @@ fn cuts(name: &[u8], limit: u32, bytes: &[u8]) {
     text::word(name);
     text::word(b" cuts");
     if whole <= bytes.len() as u64 {
-        text::decimal(needing(limit, bytes, 0, 4, 4));
-        text::decimal(needing(limit, bytes, 4, whole as usize, whole));
+        let end = whole as usize;
+        text::decimal(needing(limit, &bytes[..4], 0, 4));
+        text::decimal(needing(limit, &bytes[..end], 4, whole));
     }
     text::word(b"\n");
 }
 
-// How many of the cuts of `from` bytes and more, but fewer than `to`, are short and need this number.
-fn needing(limit: u32, bytes: &[u8], from: usize, to: usize, needed: u64) -> u64
-    requires { ⌜ from ≤ to ⌝ }
-    requires { ⌜ to ≤ length (now bytes) ⌝ }
-    ensures { λ r. ⌜ r ≤ to ⌝ }
+// How many of the frame's cuts, from a length on, are short and need this number.
+fn needing(limit: u32, frame: &[u8], from: usize, needed: u64) -> u64
+    ensures { λ r. ⌜ r ≤ length (now (frame .entry)) ⌝ }
 {
     let mut count: u64 = 0;
-    for k in from..to {
-        if needs(limit, &bytes[..k], needed) {
+    let mut k = from;
+    while k < frame.len() {
+        if needs(limit, &frame[..k], needed) {
             count += 1;
         }
+        k += 1;
     }
     count
 }
@@ -101,11 +111,4 @@ fn needs(limit: u32, cut: &[u8], n: u64) -> bool {
             place: _,
         } => false,
     }
-}
-
-// A byte behind the frame plays no part.
-fn longer(name: &[u8], limit: u32, bytes: &[u8]) {
-    text::word(name);
-    text::word(b" longer");
-    print(bytes, frames::read(bytes, limit));
 }
