@@ -5,17 +5,17 @@ use crate::shown;
 use crate::text;
 use fields::Cursor;
 use layouts::Reading;
+use protocol::Frame;
 
 pub fn run(name: &[u8], limit: u32, bytes: &[u8]) {
     text::word(name);
-    print(bytes, frames::read(bytes, limit));
     match frames::read(bytes, limit) {
-        Reading::Frame(_) => cuts(name, limit, bytes),
-        Reading::Short { needed: _ } => {}
-        Reading::Refused {
-            number: _,
-            place: _,
-        } => {}
+        Reading::Frame(frame) => {
+            accepted(bytes, frame);
+            cuts(name, limit, bytes);
+        }
+        Reading::Short { needed } => short(needed),
+        Reading::Refused { number, place } => refused(number, place),
     }
 }
 
@@ -25,7 +25,7 @@ pub fn longer(name: &[u8], limit: u32, bytes: &[u8]) {
         Reading::Frame(frame) => {
             text::word(name);
             text::word(b" longer");
-            print(bytes, Reading::Frame(frame));
+            accepted(bytes, frame);
         }
         Reading::Short { needed: _ } => {}
         Reading::Refused {
@@ -35,24 +35,24 @@ pub fn longer(name: &[u8], limit: u32, bytes: &[u8]) {
     }
 }
 
-fn print(bytes: &[u8], answer: Reading) {
-    match answer {
-        Reading::Frame(frame) => {
-            text::word(b" frame");
-            head(bytes);
-            shown::fields(frame);
-        }
-        Reading::Short { needed } => {
-            text::word(b" short");
-            text::decimal(needed);
-        }
-        Reading::Refused { number, place } => {
-            text::word(b" refused");
-            text::decimal(number as u64);
-            text::word(b" at");
-            text::decimal(place as u64);
-        }
-    }
+fn accepted(bytes: &[u8], frame: Frame) {
+    text::word(b" frame");
+    head(bytes);
+    shown::fields(frame);
+    text::word(b"\n");
+}
+
+fn short(needed: u64) {
+    text::word(b" short");
+    text::decimal(needed);
+    text::word(b"\n");
+}
+
+fn refused(number: u8, place: usize) {
+    text::word(b" refused");
+    text::decimal(number as u64);
+    text::word(b" at");
+    text::decimal(place as u64);
     text::word(b"\n");
 }
 
@@ -81,34 +81,41 @@ fn cuts(name: &[u8], limit: u32, bytes: &[u8]) {
     text::word(b" cuts");
     if whole <= bytes.len() as u64 {
         let end = whole as usize;
-        text::decimal(needing(limit, &bytes[..4], 0, 4));
-        text::decimal(needing(limit, &bytes[..end], 4, whole));
+        text::decimal(needing(limit, &bytes[0..4], 0, 4));
+        text::decimal(needing(limit, &bytes[0..end], 4, whole));
     }
     text::word(b"\n");
 }
 
-// How many of the frame's cuts, from a length on, are short and need this number.
-fn needing(limit: u32, frame: &[u8], from: usize, needed: u64) -> u64
+// How many of the frame's cuts, from a length on, are short and need n bytes.
+fn needing(limit: u32, frame: &[u8], from: usize, n: u64) -> u64
     ensures { λ r. ⌜ r ≤ length (now (frame .entry)) ⌝ }
 {
     let mut count: u64 = 0;
     let mut k = from;
     while k < frame.len() {
-        if needs(limit, &frame[..k], needed) {
-            count += 1;
-        }
+        count += short_of(limit, &frame[0..k], n);
         k += 1;
     }
     count
 }
 
-fn needs(limit: u32, cut: &[u8], n: u64) -> bool {
+// 1 if the cut is short and needs n bytes, else 0.
+fn short_of(limit: u32, cut: &[u8], n: u64) -> u64
+    ensures { λ r. ⌜ r ≤ 1 ⌝ }
+{
     match frames::read(cut, limit) {
-        Reading::Frame(_) => false,
-        Reading::Short { needed } => needed == n,
+        Reading::Frame(_) => 0,
+        Reading::Short { needed } => one_if(needed == n),
         Reading::Refused {
             number: _,
             place: _,
-        } => false,
+        } => 0,
     }
+}
+
+fn one_if(t: bool) -> u64
+    ensures { λ r. ⌜ r ≤ 1 ⌝ }
+{
+    if t { 1 } else { 0 }
 }

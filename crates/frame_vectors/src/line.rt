@@ -9,7 +9,7 @@ pub fn run(text: &[u8]) {
     while at < text.len() {
         let end = next(text, at, 10);
         vector(&text[at..end]);
-        if end == text.len() {
+        if text.len() <= end {
             return;
         }
         at = end + 1;
@@ -29,9 +29,9 @@ fn vector(line: &[u8]) {
     let limit = decimal(&line[name_end + 1..limit_end]);
     let mut space = io::buffer();
     let n = unhex(&line[limit_end + 1..], &mut space);
-    answer::run(&line[..name_end], limit, &space[..n]);
+    answer::run(&line[0..name_end], limit, &space[..n]);
     let n = one_more(&mut space, n);
-    answer::longer(&line[..name_end], limit, &space[..n]);
+    answer::longer(&line[0..name_end], limit, &space[..n]);
 }
 
 // Puts a byte at a place of out, if there is room, and answers the place behind it.

@@ -1,4 +1,4 @@
--- The count is at most the cut's length, and the loop counts up.
+-- A cut adds at most one, and is longer than those before it.
 use Prim.Native.Nat.{_≤_, _<_, _-_}
 use lib.ListN.{length}
 use mathlib.Core.Path.{_≡_}
@@ -7,10 +7,10 @@ use Rattle.frame_vectors.proofs.answer.needing.Statement.{statement}
 use Rattle.frame_vectors.proofs.answer.needing.Tie as tie
 
 abbrev Inv-loop : tie.InvT-loop
-Inv-loop limit bytes from to needed count₀ k₀ count k = (k ≤ to) × ((count ≤ k) × (to ≤ length bytes))
+Inv-loop limit frame from n count₀ k₀ count k = (count ≤ k) × (count ≤ length frame)
 
 abbrev μ-loop : tie.MeasureT-loop
-μ-loop limit bytes from to needed count₀ k₀ count k = to - k
+μ-loop limit frame from n count₀ k₀ count k = length frame - k
 
 pub needing-spec : {M : Type 1} → statement M
 needing-spec =
@@ -20,9 +20,9 @@ needing-spec =
     μ-loop
     (λ c. search needs)
     (λ c. search needs)
+    (λ c. search needs)
+    (λ c. search needs)
     (λ c κs. search needs)
-    (λ c. search needs)
-    (λ c. search needs)
     (λ c. search needs)
     (λ c. search needs)
     (λ c. search needs)
