@@ -8,7 +8,7 @@ use Rattle.frame_vectors.proofs.line.unhex.Statement.{statement}
 use Rattle.frame_vectors.proofs.line.unhex.Tie as tie
 
 abbrev Inv-loop : tie.InvT-loop
-Inv-loop text out₀ i₀ n₀ out i n = (i ≤ length text) × ((n ≤ length out) × (length out ≡ length out₀))
+Inv-loop text out₀ i₀ n₀ out i n = (i ≤ length text) × ((n ≤ length out₀) × (length out ≡ length out₀))
 
 abbrev μ-loop : tie.MeasureT-loop
 μ-loop text out₀ i₀ n₀ out i n = length out₀ - n
@@ -34,6 +34,6 @@ unhex-spec =
     (λ c. search needs)
     (λ c. search needs)
     (λ c. search needs)
-    (λ c. search needs)
+    (λ c. (search needs, (search needs, search needs)))
     (λ c. search needs)
     (λ c. counts _ _ (search needs)))
