@@ -1,8 +1,20 @@
 #!/usr/bin/env python3
 """Writes the vectors of crates/frame_vectors: `stdin`, and in `stdout` what a reader of frames answers to them.
 
-The reader here is written from the rules (01 "What to build and its rules") and shares nothing with the library. To add
-a vector, add a call of `vector` to the list below and run this file. It needs Python 3 and nothing else.
+The reader here is written from the rules (01 "What to build and its rules", and Q-9 for the places of refusals) and
+shares nothing with the library. To add a vector, add a call of `vector` to the list below and run this file, which
+needs Python 3 and nothing else.
+
+A line of `stdin` is a vector: name, frame limit, bytes in hexadecimal (`-` for none). The lines of `stdout` for it:
+
+    NAME short NEEDED
+    NAME refused NUMBER at PLACE
+    NAME frame KEY VERSION LENGTH CASE FIELDS...
+    NAME cuts A B        how many cuts below 4 bytes need 4, and how many longer ones need LENGTH: all, if A + B = LENGTH
+    NAME longer frame ...      the same with a byte ff behind the vector, if that is a frame
+
+KEY and VERSION are the bytes' own, CASE is the key and the version of the frame's case. A place is `at+length`, a list
+`count@at+length`, a signed number its bits in hexadecimal.
 """
 import os
 
