@@ -1,8 +1,20 @@
 #!/usr/bin/env python3
 """Writes the vectors of crates/frame_vectors: `stdin`, and in `stdout` what a reader of frames answers to them.
 
-The reader here is written from the rules (01 "What to build and its rules") and shares nothing with the library. To add
-a vector, add a call of `vector` to the list below and run this file. It needs Python 3 and nothing else.
+The reader here is written from the rules (01 "What to build and its rules", and Q-9 for the places of refusals) and
+shares nothing with the library. To add a vector, add a call of `vector` to the list below and run this file, which
+needs Python 3 and nothing else.
+
+A line of `stdin` is a vector: name, frame limit, bytes in hexadecimal (`-` for none). The lines of `stdout` for it:
+
+    NAME short NEEDED
+    NAME refused NUMBER at PLACE
+    NAME frame KEY VERSION LENGTH CASE FIELDS...
+    NAME cuts A B        how many cuts below 4 bytes need 4, and how many longer ones need LENGTH: all, if A + B = LENGTH
+    NAME longer frame ...      the same with a byte ff behind the vector, if that is a frame
+
+KEY and VERSION are the bytes' own, CASE is the key and the version of the frame's case. A place is `at+length`, a list
+`count@at+length`, a signed number its bits in hexadecimal.
 """
 import os
 
@@ -231,12 +243,12 @@ def read_frame(data, limit):
         raise Refused(4, 4)
     if (key, version) not in LAYOUTS:
         raise Refused(5, 6)
-    name, kinds = LAYOUTS[key, version]
+    _, kinds = LAYOUTS[key, version]
     reader = Reader(data[: size + 4])
     told = [reader.field(kind) for kind in kinds]
     if reader.left() > 0:
         raise Refused(11, reader.at)
-    return " ".join(["frame %04x %d %d" % (key, version, size + 4), name] + told)
+    return " ".join(["frame %04x %d %d %04x%04x" % (key, version, size + 4, key, version)] + told)
 
 
 # ---- Vectors --------------------------------------------------------------------------------------------------------
@@ -261,7 +273,10 @@ def vector(name, data, limit=0):
         cuts = [read(data[:n], limit) for n in range(whole)]
         assert cuts == ["short 4"] * 4 + ["short %d" % whole] * (whole - 4)
         STDOUT.append("%s cuts 4 %d\n" % (name, whole - 4))
-        STDOUT.append("%s longer %s\n" % (name, read(data + b"\0", limit)))
+        assert read(data + b"\xff", limit) == answer
+    longer = read(data + b"\xff", limit)
+    if longer.startswith("frame"):
+        STDOUT.append("%s longer %s\n" % (name, longer))
 
 
 def number(width, n):
@@ -346,7 +361,7 @@ for (key, version), (name, kinds) in LAYOUTS.items():
     vector(name + "-least", frame(key, b"".join(map(least, kinds)), version))
     vector(name + "-byte-too-many", with_size(whole + b"\x00"))
     vector(name + "-byte-too-few", with_size(whole[:-1]))
-    vector(name + "-unknown-version", frame(key, whole[8:], 3 if version == 2 else 2 if (key, 2) not in LAYOUTS else 0))
+    vector(name + "-unknown-version", frame(key, b"", 3 if version == 2 else 2 if (key, 2) not in LAYOUTS else 0))
 
 # The marked cases A to L of 01.
 vector("case-a-heartbeat", bytes.fromhex("0000000400170001"))

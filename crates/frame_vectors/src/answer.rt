@@ -5,18 +5,27 @@ use crate::shown;
 use crate::text;
 use fields::Cursor;
 use layouts::Reading;
+use protocol::Frame;
 
-// The first n bytes of space are the vector's.
-pub fn run(name: &[u8], limit: u32, space: &[u8], n: usize) {
-    if space.len() <= n {
-        return;
-    }
+pub fn run(name: &[u8], limit: u32, bytes: &[u8]) {
     text::word(name);
-    print(&space[..n], frames::read(&space[..n], limit));
-    match frames::read(&space[..n], limit) {
-        Reading::Frame(_) => {
-            cuts(name, limit, &space[..n]);
-            longer(name, limit, &space[..n + 1]);
+    match frames::read(bytes, limit) {
+        Reading::Frame(frame) => {
+            accepted(bytes, frame);
+            cuts(name, limit, bytes);
+        }
+        Reading::Short { needed } => short(needed),
+        Reading::Refused { number, place } => refused(number, place),
+    }
+}
+
+// With one byte more behind the vector: printed if that is a frame. A byte behind a frame plays no part.
+pub fn longer(name: &[u8], limit: u32, bytes: &[u8]) {
+    match frames::read(bytes, limit) {
+        Reading::Frame(frame) => {
+            text::word(name);
+            text::word(b" longer");
+            accepted(bytes, frame);
         }
         Reading::Short { needed: _ } => {}
         Reading::Refused {
@@ -26,24 +35,24 @@ pub fn run(name: &[u8], limit: u32, space: &[u8], n: usize) {
     }
 }
 
-fn print(bytes: &[u8], answer: Reading) {
-    match answer {
-        Reading::Frame(frame) => {
-            text::word(b" frame");
-            head(bytes);
-            shown::fields(frame);
-        }
-        Reading::Short { needed } => {
-            text::word(b" short");
-            text::decimal(needed);
-        }
-        Reading::Refused { number, place } => {
-            text::word(b" refused");
-            text::decimal(number as u64);
-            text::word(b" at");
-            text::decimal(place as u64);
-        }
-    }
+fn accepted(bytes: &[u8], frame: Frame) {
+    text::word(b" frame");
+    head(bytes);
+    shown::fields(frame);
+    text::word(b"\n");
+}
+
+fn short(needed: u64) {
+    text::word(b" short");
+    text::decimal(needed);
+    text::word(b"\n");
+}
+
+fn refused(number: u8, place: usize) {
+    text::word(b" refused");
+    text::decimal(number as u64);
+    text::word(b" at");
+    text::decimal(place as u64);
     text::word(b"\n");
 }
 
@@ -71,41 +80,42 @@ fn cuts(name: &[u8], limit: u32, bytes: &[u8]) {
     text::word(name);
     text::word(b" cuts");
     if whole <= bytes.len() as u64 {
-        text::decimal(needing(limit, bytes, 0, 4, 4));
-        text::decimal(needing(limit, bytes, 4, whole as usize, whole));
+        let end = whole as usize;
+        text::decimal(needing(limit, &bytes[0..4], 0, 4));
+        text::decimal(needing(limit, &bytes[0..end], 4, whole));
     }
     text::word(b"\n");
 }
 
-// How many of the cuts of `from` bytes and more, but fewer than `to`, are short and need this number.
-fn needing(limit: u32, bytes: &[u8], from: usize, to: usize, needed: u64) -> u64
-    requires { ⌜ from ≤ to ⌝ }
-    requires { ⌜ to ≤ length (now bytes) ⌝ }
-    ensures { λ r. ⌜ r ≤ to ⌝ }
+// How many of the frame's cuts, from a length on, are short and need n bytes.
+fn needing(limit: u32, frame: &[u8], from: usize, n: u64) -> u64
+    ensures { λ r. ⌜ r ≤ length (now (frame .entry)) ⌝ }
 {
     let mut count: u64 = 0;
-    for k in from..to {
-        if needs(limit, &bytes[..k], needed) {
-            count += 1;
-        }
+    let mut k = from;
+    while k < frame.len() {
+        count += short_of(limit, &frame[0..k], n);
+        k += 1;
     }
     count
 }
 
-fn needs(limit: u32, cut: &[u8], n: u64) -> bool {
+// 1 if the cut is short and needs n bytes, else 0.
+fn short_of(limit: u32, cut: &[u8], n: u64) -> u64
+    ensures { λ r. ⌜ r ≤ 1 ⌝ }
+{
     match frames::read(cut, limit) {
-        Reading::Frame(_) => false,
-        Reading::Short { needed } => needed == n,
+        Reading::Frame(_) => 0,
+        Reading::Short { needed } => one_if(needed == n),
         Reading::Refused {
             number: _,
             place: _,
-        } => false,
+        } => 0,
     }
 }
 
-// A byte behind the frame plays no part.
-fn longer(name: &[u8], limit: u32, bytes: &[u8]) {
-    text::word(name);
-    text::word(b" longer");
-    print(bytes, frames::read(bytes, limit));
+fn one_if(t: bool) -> u64
+    ensures { λ r. ⌜ r ≤ 1 ⌝ }
+{
+    if t { 1 } else { 0 }
 }

@@ -1,6 +1,7 @@
 // The lines of the input, each taken apart.
 ghost use Prim.Native.Nat.{_≤_, _<_};
 ghost use lib.ListN.{length};
+ghost use Rattle.io.specs.Counts.{Counts};
 use crate::answer;
 
 pub fn run(text: &[u8]) {
@@ -8,7 +9,7 @@ pub fn run(text: &[u8]) {
     while at < text.len() {
         let end = next(text, at, 10);
         vector(&text[at..end]);
-        if end == text.len() {
+        if text.len() <= end {
             return;
         }
         at = end + 1;
@@ -28,7 +29,21 @@ fn vector(line: &[u8]) {
     let limit = decimal(&line[name_end + 1..limit_end]);
     let mut space = io::buffer();
     let n = unhex(&line[limit_end + 1..], &mut space);
-    answer::run(&line[..name_end], limit, &space, n);
+    answer::run(&line[0..name_end], limit, &space[..n]);
+    let n = one_more(&mut space, n);
+    answer::longer(&line[0..name_end], limit, &space[..n]);
+}
+
+// Puts a byte at a place of out, if there is room, and answers the place behind it.
+fn one_more(out: &mut [u8], at: usize) -> usize
+    ensures { λ r. ⌜ Counts r (now (out .exit)) ⌝ }
+{
+    if at < out.len() {
+        out[at] = 0xff;
+        at + 1
+    } else {
+        0
+    }
 }
 
 // The place of the first byte b from at on, or the end.
@@ -60,7 +75,7 @@ fn decimal(text: &[u8]) -> u32
 
 // Puts the bytes that pairs of digits give at the start of out, as many as there is room for, and answers how many.
 fn unhex(text: &[u8], out: &mut [u8]) -> usize
-    ensures { λ r. ⌜ r ≤ length (now (out .exit)) ⌝ }
+    ensures { λ r. ⌜ Counts r (now (out .exit)) ⌝ }
 {
     let mut i = 0;
     let mut n = 0;
