@@ -1,0 +1,7 @@
+-- What the proofs of several functions use.
+mod Behind
+mod Narrowing
+mod Fitting
+mod Rows
+mod Decided
+mod Flattened

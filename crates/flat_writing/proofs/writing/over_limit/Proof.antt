@@ -1,0 +1,12 @@
+-- By whether there is a limit.
+use borrow.Author.Tests.{eq-eqb, ne-eqb}
+use borrow.Author.Needs.{needs}
+use Rattle.flat_writing.proofs.writing.over_limit.Statement.{statement}
+use Rattle.flat_writing.proofs.writing.over_limit.Tie as tie
+
+pub over-limit-spec : {M : Type 1} → statement M
+over-limit-spec =
+    tie.close
+    (tie.spec
+    (λ c. rw (eq-eqb _ _ (c .if1 .taken)))
+    (λ c. rw (ne-eqb _ _ (c .if1 .left))))

@@ -1,0 +1,3 @@
+-- Writing from slots.
+pub mod Row
+pub mod Narrow
