@@ -37,7 +37,7 @@ fn vector(line: &[u8]) {
     answer::longer(&line[0..name_end], limit, &space[..n]);
 }
 
-// Puts a byte at a place of out, if there is room, and answers the place behind it.
+// Puts a byte at a place of out and answers the place behind it, or 0 if there is no room.
 fn one_more(out: &mut [u8], at: usize) -> usize
     ensures { λ r. ⌜ Counts r (now (out .exit)) ⌝ }
 {
