@@ -110,11 +110,12 @@ module _ (w : List ℕ) (ended : Bool) (p : Progress) (inside : p .from ≤ leng
 
       by : (t : Bool) → Leads (joined (cond t [] (frameLine (p .offset) total key version))) (cond t (halted p at TooLong) (advanced p total at))
       by true = stays-there at TooLong [] refl (λ l. refl)
-      by false =
-          (let l = length-drop (p .from) w in omega (arith, there .1, l, inside),
-          λ rest r. lines-next (framed total key version) e (λ z. absurd (let o : _≡_ {A = ℕ} 0 1 = cc in omega arith)) rest r
-          ∙ ap (λ (s : List ℕ). joined (frameLine (p .offset) total key version) ++ linesOf s (p .offset + total) (suc (p .frames))) (on rest)
-          ∙ ap (λ (k : ℕ). joined (frameLine (p .offset) total key version) ++ linesOf (drop (p .from + total) (w ++ rest)) (p .offset + total) k) (sym (add-one (p .frames))))
+      by false = (
+        let l = length-drop (p .from) w in omega (arith, there .1, l, inside),
+        λ rest r. lines-next (framed total key version) e (λ z. absurd (let o : _≡_ {A = ℕ} 0 1 = cc in omega arith)) rest r
+            ∙ ap (λ (s : List ℕ). joined (frameLine (p .offset) total key version) ++ linesOf s (p .offset + total) (suc (p .frames))) (on rest)
+            ∙ ap (λ (k : ℕ). joined (frameLine (p .offset) total key version) ++ linesOf (drop (p .from + total) (w ++ rest)) (p .offset + total) k) (sym (add-one (p .frames))),
+      )
   leads whole at e = closes whole at e (λ z. absurd (let o : _≡_ {A = ℕ} 0 1 = cc in omega arith)) (λ f. refl)
   leads (cut left needed) at e = closes (cut left needed) at e (λ z. absurd (let o : _≡_ {A = ℕ} 0 1 = cc in omega arith)) (λ f. sym (joined-append (cutLine (p .offset) left needed) (closingLine (p .frames) (ascii " cut\n"))))
   leads (refused number) at e = closes (refused number) at e (λ z. absurd (let o : _≡_ {A = ℕ} 0 1 = cc in omega arith)) (λ f. sym (joined-append (refusedLine (p .offset) number) (closingLine (p .frames) (ascii " refused\n"))))
@@ -189,16 +190,16 @@ lists-more w ended p q r a b c l g m =
     let y = m .written in
     let z = m .room in
     let h : p .written + length (l .text) + length (m .text) ≤ length a = omega (arith, k, x, y, z) in
-    record
-      { text = l .text ++ m .text
-      ; put = m .put ∙ (ap (λ (s : List ℕ). splice s (q .written) (m .text)) (l .put) ∙ (ap (λ (i : ℕ). splice (splice a (p .written) (l .text)) i (m .text)) x ∙ splice-splice a (l .text) (m .text) (p .written) h))
-      ; written = omega (arith, n, x, y)
-      ; room = omega (arith, k, z)
-      ; within = m .within
-      ; lines = λ rest f. l .lines rest f
+    record {
+      text = l .text ++ m .text;
+      put = m .put ∙ (ap (λ (s : List ℕ). splice s (q .written) (m .text)) (l .put) ∙ (ap (λ (i : ℕ). splice (splice a (p .written) (l .text)) i (m .text)) x ∙ splice-splice a (l .text) (m .text) (p .written) h));
+      written = omega (arith, n, x, y);
+      room = omega (arith, k, z);
+      within = m .within;
+      lines = λ rest f. l .lines rest f
           ∙ (ap (λ (s : State). l .text ++ behind s (linesOf (drop (q .from) (w ++ rest)) (q .offset) (q .frames))) g
-          ∙ (ap (λ (s : List ℕ). l .text ++ s) (m .lines rest f) ∙ sym (append-assoc (l .text) (m .text) _)))
-      }
+          ∙ (ap (λ (s : List ℕ). l .text ++ s) (m .lines rest f) ∙ sym (append-assoc (l .text) (m .text) _)));
+    }
 
 pub lists-room : (w : List ℕ) (ended : Bool) (p q : Progress) (a b : List ℕ) (room : Bool) → Lists w ended p a b q → room ≡ leb (q .written + 128) (length b) → room ≡ true → q .written + 128 ≤ length b
 lists-room w ended p q a b room l e f = leb-true _ _ (sym e ∙ f)

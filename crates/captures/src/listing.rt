@@ -97,7 +97,11 @@ fn step(window: &[u8], ended: bool, p: Progress, out: &mut [u8]) -> Progress
     let from = p.from;
     let at = p.written;
     match next_frame(&window[from..], ended) {
-        Next::Frame { total, key, version } => frame_step(p, out, total, key, version),
+        Next::Frame {
+            total,
+            key,
+            version,
+        } => frame_step(p, out, total, key, version),
         Next::Whole => closed(p, out, at, b" whole\n"),
         Next::Cut { left, needed } => cut_step(p, out, left, needed),
         Next::Refused { number } => refused_step(p, out, number),
