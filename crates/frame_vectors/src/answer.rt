@@ -1,5 +1,7 @@
 // What reading answers to one vector.
 ghost use Prim.Native.Nat.{_≤_};
+ghost use mathlib.Core.Path.{_≡_};
+ghost use mathlib.Core.Bool.{cond};
 ghost use lib.ListN.{length};
 use crate::shown;
 use crate::text;
@@ -116,6 +118,7 @@ fn short_of(limit: u32, cut: &[u8], n: u64) -> u64
 
 fn one_if(t: bool) -> u64
     ensures { λ r. ⌜ r ≤ 1 ⌝ }
+    ensures { λ r. ⌜ r ≡ cond t 1 0 ⌝ }
 {
     if t { 1 } else { 0 }
 }

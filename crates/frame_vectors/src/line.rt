@@ -1,5 +1,8 @@
 // The lines of the input, each taken apart.
-ghost use Prim.Native.Nat.{_≤_, _<_};
+ghost use Prim.Native.Nat.{_-_, _%_, _≤_, _<_};
+ghost use mathlib.Core.Path.{_≡_};
+ghost use mathlib.Core.Bool.{cond};
+ghost use lib.Dec.{ltb};
 ghost use lib.ListN.{length};
 ghost use Rattle.io.specs.Counts.{Counts};
 use crate::answer;
@@ -34,7 +37,7 @@ fn vector(line: &[u8]) {
     answer::longer(&line[0..name_end], limit, &space[..n]);
 }
 
-// Puts a byte at a place of out, if there is room, and answers the place behind it.
+// Puts a byte at a place of out and answers the place behind it, or 0 if there is no room.
 fn one_more(out: &mut [u8], at: usize) -> usize
     ensures { λ r. ⌜ Counts r (now (out .exit)) ⌝ }
 {
@@ -93,6 +96,7 @@ fn unhex(text: &[u8], out: &mut [u8]) -> usize
 // The value of a digit, decimal or hexadecimal in lower case.
 fn digit(b: u8) -> u8
     ensures { λ r. ⌜ r < 16 ⌝ }
+    ensures { λ r. ⌜ r ≡ cond (ltb b 97) (b % 16) ((b - 87) % 16) ⌝ }
 {
     if b < 97 { b % 16 } else { (b - 87) % 16 }
 }

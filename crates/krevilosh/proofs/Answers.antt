@@ -22,7 +22,7 @@ use Rattle.rules.specs.Reading as rules
 use Rattle.ledger.specs.Calls.{take, answerBy}
 use Rattle.ledger.specs.Calls as calls
 use Rattle.ledger.specs.Rules.{refusal, entryAt, answerTo}
-use Rattle.credit.specs.Calls.{received, nothing, frame, number, short, unread, Says, readAnswer, deliverId}
+use Rattle.credit.specs.Calls.{received, nothing, frame, number, short, unread, Reply, readAnswer, deliverId}
 use Rattle.credit.specs.Step.{answer, actOnFrame, actOnReading}
 use Rattle.krevilosh.specs.Answer.{readNumber, readSlots, NeededFits, orZero, creditNumber, creditSlots, publisherNumber}
 
@@ -73,31 +73,31 @@ read-slots old (rules.frame f) = refl
 read-slots old (rules.short needed) = refl
 read-slots old (rules.refusal n place) = refl
 
-abbrev SaysFits : Says → Type 0
-SaysFits (calls.accepted y) = Unit
-SaysFits (calls.refused (number n)) = Unit
-SaysFits (calls.refused (short needed)) = needed ≤ 4294967299
-SaysFits (calls.refused (unread n place)) = Unit
+abbrev ReplyFits : Reply → Type 0
+ReplyFits (calls.accepted y) = Unit
+ReplyFits (calls.refused (number n)) = Unit
+ReplyFits (calls.refused (short needed)) = needed ≤ 4294967299
+ReplyFits (calls.refused (unread n place)) = Unit
 
-taken : (o : Option ℕ) (f : Fields Place) → SaysFits (answerBy number o (frame f))
+taken : (o : Option ℕ) (f : Fields Place) → ReplyFits (answerBy number o (frame f))
 taken none f = tt
 taken (some n) f = tt
 
-of-frame : (l : List ℕ) (o : Option ℕ) (f : Fields Place) → SaysFits (answerTo number l (actOnFrame o f))
+of-frame : (l : List ℕ) (o : Option ℕ) (f : Fields Place) → ReplyFits (answerTo number l (actOnFrame o f))
 of-frame l (some i) f = taken (refusal (take 1 noCredit) (entryAt l i)) f
 of-frame l none f = tt
 
-of-reading : (l : List ℕ) (r : Reading) → NeededFits r → SaysFits (answerTo number l (actOnReading r))
+of-reading : (l : List ℕ) (r : Reading) → NeededFits r → ReplyFits (answerTo number l (actOnReading r))
 of-reading l (rules.frame f) h = of-frame l (deliverId f) f
 of-reading l (rules.short needed) h = h
 of-reading l (rules.refusal n place) h = tt
 
-of-says : (r : Reading) → SaysFits (readAnswer r) → NeededFits r
-of-says (rules.frame f) h = tt
-of-says (rules.short needed) h = h
-of-says (rules.refusal n place) h = tt
+of-reply : (r : Reading) → ReplyFits (readAnswer r) → NeededFits r
+of-reply (rules.frame f) h = tt
+of-reply (rules.short needed) h = h
+of-reply (rules.refusal n place) h = tt
 
 -- What reading answers through the credit ledger.
 pub received-fits : (l s : List ℕ) (limit : ℕ) (r : Reading) → Bytes s → readAnswer r ≡ answer l (received s limit) → NeededFits r
 received-fits l s limit r b e =
-    of-says r (subst (λ (x : Says). SaysFits x) (sym e) (of-reading l (readFrame s limit) (needed-fits s limit b)))
+    of-reply r (subst (λ (x : Reply). ReplyFits x) (sym e) (of-reading l (readFrame s limit) (needed-fits s limit b)))

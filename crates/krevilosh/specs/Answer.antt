@@ -37,18 +37,18 @@ orZero none = 0
 orZero (some n) = n
 
 -- The answers of the credit ledger.
-abbrev pub creditNumber : credit.Says → ℕ
+abbrev pub creditNumber : credit.Reply → ℕ
 creditNumber (accepted y) = 0
 creditNumber (refused (credit.number n)) = n
 creditNumber (refused (credit.short needed)) = answer refusals.short needed
 creditNumber (refused (credit.unread n place)) = n
 
-abbrev pub creditSlots : List ℕ → credit.Says → List ℕ
+abbrev pub creditSlots : List ℕ → credit.Reply → List ℕ
 creditSlots old (accepted credit.nothing) = old
 creditSlots old (accepted (credit.frame f)) = flatFrame f
 creditSlots old (refused r) = old
 
 -- The answers of the publisher ledger.
-abbrev pub publisherNumber : publisher.Says → ℕ
+abbrev pub publisherNumber : publisher.Reply → ℕ
 publisherNumber (accepted y) = 0
 publisherNumber (refused n) = n

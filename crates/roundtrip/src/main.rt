@@ -1,19 +1,22 @@
-// Reads every frame of some captures of a real broker, writes it, compares the bytes and reads what was written. A line
+// Reads every frame of the sample captures, writes it, compares the bytes and reads what was written. A line
 // for each capture: the frames that came back as they were, the bytes they take, and the bytes left behind them. In a
-// server's capture those begin with the first frame that the rules refuse.
+// server's capture those begin with the first frame that the rules refuse, and in the last one with the frame that is cut.
 mod text;
 mod trip;
 
 fn main() {
     capture(b"01-handshake.client.bin");
     capture(b"01-handshake.server.bin");
+    capture(b"02-small.client.bin");
     capture(b"03-errors.client.bin");
+    capture(b"03-errors.server.bin");
     capture(b"03-errors.conforming.server.bin");
     capture(b"15-credit.conforming.server.bin");
+    capture(b"storm-cut.bin");
 }
 
 fn capture(name: &[u8]) {
-    let mut space = io::large_buffer();
+    let mut space = [0u8; 131072];
     let n = io::read_full(os::open_read(name), &mut space);
     text::word(name);
     trip::walk(&space[..n]);

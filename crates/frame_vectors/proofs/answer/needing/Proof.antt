@@ -1,7 +1,6 @@
--- A cut adds at most one, and is longer than those before it.
-use Prim.Native.Nat.{_≤_, _<_, _-_}
+-- A cut adds at most one, and is longer than those before it. Assumes nothing.
+use Prim.Native.Nat.{_≤_, _-_}
 use lib.ListN.{length}
-use mathlib.Core.Path.{_≡_}
 use borrow.Author.Needs.{needs}
 use Rattle.frame_vectors.proofs.answer.needing.Statement.{statement}
 use Rattle.frame_vectors.proofs.answer.needing.Tie as tie

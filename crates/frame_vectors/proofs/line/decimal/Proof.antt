@@ -1,4 +1,4 @@
--- The number stays below 2^32, and the loop counts up to the slice's length.
+-- The number stays below 2^32, and the loop counts up to the slice's length. Assumes nothing.
 use Prim.Native.Nat.{_≤_, _<_, _-_}
 use lib.ListN.{length}
 use mathlib.Core.Path.{_≡_}

@@ -1,7 +1,6 @@
--- The loop counts up from the place to the slice's length.
-use Prim.Native.Nat.{_≤_, _<_, _-_}
+-- The loop counts up from the place to the slice's length. Assumes nothing.
+use Prim.Native.Nat.{_≤_, _-_}
 use lib.ListN.{length}
-use mathlib.Core.Path.{_≡_}
 use borrow.Author.Needs.{needs}
 use Rattle.frame_vectors.proofs.line.next.Statement.{statement}
 use Rattle.frame_vectors.proofs.line.next.Tie as tie

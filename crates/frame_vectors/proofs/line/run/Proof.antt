@@ -1,7 +1,6 @@
--- Each line ends behind its beginning, and the next one begins behind that.
-use Prim.Native.Nat.{_≤_, _<_, _-_}
+-- Each line ends behind its beginning, and the next one begins behind that. Assumes nothing.
+use Prim.Native.Nat.{_≤_, _-_}
 use lib.ListN.{length}
-use mathlib.Core.Path.{_≡_}
 use borrow.Author.Needs.{needs}
 use Rattle.frame_vectors.proofs.line.run.Statement.{statement}
 use Rattle.frame_vectors.proofs.line.run.Tie as tie

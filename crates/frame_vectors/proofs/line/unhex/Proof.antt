@@ -1,5 +1,5 @@
--- Neither place passes its slice's end, and the loop counts up to the output's length.
-use Prim.Native.Nat.{_≤_, _<_, _-_}
+-- Neither place passes its slice's end, and the loop counts up to the output's length. Assumes nothing.
+use Prim.Native.Nat.{_≤_, _-_}
 use lib.ListN.{length}
 use mathlib.Core.Path.{_≡_}
 use Rattle.frame_vectors.proofs.Counting.{counts}

@@ -4,7 +4,7 @@ use native.Mathlib.Omega.{arith}
 use denote.Ref.{now}
 use Rattle.wire.specs.Integers.{Bytes}
 use Rattle.layouts.specs.Answer.{answerOf}
-use Rattle.credit.specs.Calls.{Says}
+use Rattle.credit.specs.Calls.{Reply}
 use Rattle.credit.specs.Step.{answerOfReceived}
 use Rattle.credit.specs.declared.receiving.Received.{Received}
 use Rattle.krevilosh.specs.Answer.{creditNumber, creditSlots}
@@ -27,7 +27,7 @@ krevilosh-credit-receive-spec =
     (λ c. search needs)
     (λ c. let a = c .before .before .before .before .before .before .before .before .args in
     let p = sym (ap (λ (r : Received). answerOfReceived r) (c .before .before .before .answered .given .1)) ∙ c .before .before .before .before .before .receive .ensures .0 in
-    (c .put-reading .ensures .0 ∙ read-number (answerOf (c .before .before .before .answered .given .0 .0)) ∙ ap (λ (x : Says). creditNumber x) p, (c .before .before .before .before .before .receive .ensures .1, c .put-reading .ensures .1 ∙ read-slots (now (a .frame)) (answerOf (c .before .before .before .answered .given .0 .0)) ∙ ap (λ (x : Says). creditSlots (now (a .frame)) x) p)))
+    (c .put-reading .ensures .0 ∙ read-number (answerOf (c .before .before .before .answered .given .0 .0)) ∙ ap (λ (x : Reply). creditNumber x) p, (c .before .before .before .before .before .receive .ensures .1, c .put-reading .ensures .1 ∙ read-slots (now (a .frame)) (answerOf (c .before .before .before .answered .given .0 .0)) ∙ ap (λ (x : Reply). creditSlots (now (a .frame)) x) p)))
     (λ c. let a = c .before .before .before .before .before .before .args in
     let p = sym (ap (λ (r : Received). answerOfReceived r) (c .before .answered2 .given .1)) ∙ c .before .before .before .receive .ensures .0 in
-    (ap (λ (x : Says). creditNumber x) p, (c .before .before .before .receive .ensures .1, ap (λ (x : Says). creditSlots (now (a .frame)) x) p))))
+    (ap (λ (x : Reply). creditNumber x) p, (c .before .before .before .receive .ensures .1, ap (λ (x : Reply). creditSlots (now (a .frame)) x) p))))
