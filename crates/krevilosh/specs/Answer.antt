@@ -4,6 +4,8 @@ use mathlib.Core.List.{List}
 use mathlib.Core.Option.{Option, none, some}
 use Prim.Native.Nat.{ℕ, _+_, _*_, _≤_}
 use Rattle.rules.specs.Reading.{Reading, frame, short, refusal}
+use Rattle.rules.specs.Writing.{Written, length}
+use Rattle.rules.specs.Writing as writing
 use Rattle.protocol.specs.Refusals as refusals
 use Rattle.ledger.specs.Calls.{Answer, accepted, refused}
 use Rattle.credit.specs.Calls as credit
@@ -30,6 +32,16 @@ abbrev pub NeededFits : Reading → Type 0
 NeededFits (frame f) = Unit
 NeededFits (short needed) = needed ≤ 4294967299
 NeededFits (refusal n place) = Unit
+
+-- An accepted write comes with the frame's length.
+abbrev pub writtenNumber : Written → ℕ
+writtenNumber (length n) = answer 0 n
+writtenNumber (writing.refusal n) = n
+
+-- The length of any frame fits those bits too.
+abbrev pub LengthFits : Written → Type 0
+LengthFits (length n) = n ≤ 4294967299
+LengthFits (writing.refusal n) = Unit
 
 -- A refusal's number; 0 where there is none.
 abbrev pub orZero : Option ℕ → ℕ

@@ -9,6 +9,7 @@ mod changes;
 mod credits;
 mod publishers;
 mod reading;
+mod writing;
 
 // A refusal's number, or 0, and a value above it.
 fn packed(number: u8, value: u64) -> u64
