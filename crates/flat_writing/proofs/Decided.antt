@@ -1,6 +1,6 @@
 -- No layout has a key or a version above 65,535, nor a version 0; and what is decided is the key and the version asked for.
 -- Assumes nothing.
-use mathlib.Core.Path.{_≡_, refl, _∙_, sym, ap, subst}
+use mathlib.Core.Path.{_≡_, refl, sym, ap, subst}
 use mathlib.Core.Bool.{Bool, true, false, cond, _&&_}
 use mathlib.Core.List.{List, [], _∷_}
 use Prim.Native.Nat.{ℕ, _<_, _≤_}
@@ -9,7 +9,7 @@ use lib.Dec.{eqb, leb, ltb}
 use borrow.Author.Tests.{ne-eqb, eqb-true, leb-true, ltb-true}
 use Rattle.protocol.specs.Decision.{Versioned, versionsIn, listings, Decision, layout, unlistedKey, unlistedVersion, ofVersion, among, decide}
 use Rattle.protocol.specs.Table.{Listing, table}
-use Rattle.rules.proofs.Listed.{differ}
+use Rattle.flat_writing.proofs.Both.{left, right}
 
 abbrev Within : Listing → Type 0
 Within l = (l .key ≤ 0xffff) × ((0 < l .version) × (l .version ≤ 0xffff))
@@ -21,14 +21,6 @@ within (l ∷ ls) = leb (l .key) 0xffff && (ltb 0 (l .version) && (leb (l .versi
 table-within : within table ≡ true
 unfolding within table
 table-within = refl
-
-left : (a b : Bool) → (a && b) ≡ true → a ≡ true
-left true b e = refl
-left false b e = absurd (differ e)
-
-right : (a b : Bool) → (a && b) ≡ true → b ≡ true
-right true b e = e
-right false b e = absurd (differ e)
 
 first-within : (l : Listing) (ls : List Listing) → within (l ∷ ls) ≡ true → Within l × (within ls ≡ true)
 unfolding within

@@ -1,4 +1,5 @@
 -- What the proofs of several functions use.
+mod Both
 mod Behind
 mod Narrowing
 mod Fitting

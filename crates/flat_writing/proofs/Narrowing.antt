@@ -3,20 +3,18 @@
 use mathlib.Core.Path.{_≡_, refl, _∙_, sym, ap}
 use mathlib.Core.Bool.{Bool, true, false, cond, _&&_}
 use mathlib.Core.List.{List}
-use Prim.Native.Nat.{ℕ, zero, suc, _-_, _/_, _^_, _<_, _≤_}
+use Prim.Native.Nat.{ℕ, suc, _-_, _/_, _^_, _<_, _≤_}
 use native.Mathlib.Omega.{arith}
 use lib.Dec.{ltb}
 use lib.IntN.{ℤ, pos, negsuc}
-use lib.ListN.{getD, drop}
-use borrow.Author.Tests.{lt-ltb, le-ltb, ltb-true}
+use lib.ListN.{getD}
+use borrow.Author.Tests.{lt-ltb, ltb-true}
 use Rattle.wire.specs.Buffer.{holds}
 use Rattle.wire.specs.Integers.{digits}
 use Rattle.wire.specs.Signed.{signed, unsigned, Signed}
 use Rattle.wire.proofs.TwosComplement.{twos-complement}
-use Rattle.protocol.specs.declared.chunk.ChunkHeader.{ChunkHeader}
 use Rattle.rules.specs.Writing.{fitsSigned, fitsHeader}
-use Rattle.rules.proofs.Listed.{differ}
-use Rattle.fields.specs.Writer.{behind, putHeader}
+use Rattle.fields.specs.Writer.{behind}
 use Rattle.flat.specs.Unflat.{unflatHeader}
 use Rattle.flat_writing.specs.Narrow.{narrow, narrowFits}
 

@@ -1,6 +1,5 @@
 -- The row that the code's kinds of field stand for, and what a writer does with the slots of each.
-use mathlib.Core.Bool.{Bool, true, false}
-use mathlib.Core.List.{List, [], _∷_}
+use mathlib.Core.List.{List}
 use Prim.Native.Nat.{ℕ}
 use Rattle.protocol.specs.Kinds.{elementRow, Row, end, _·_, list, chunk, u8, u16, u32, u64, active, T, R, R?, B?, spec, spec₀}
 use Rattle.protocol.specs.Kinds as K

@@ -5,7 +5,7 @@ ghost use Prim.Native.Nat.{_^_};
 ghost use lib.Dec.{ltb};
 ghost use lib.ListN.{drop};
 ghost use Rattle.wire.specs.Buffer.{holds};
-ghost use Rattle.wire.specs.Integers.{digits, widthOf};
+ghost use Rattle.wire.specs.Integers.{digits};
 ghost use Rattle.wire.specs.Signed.{signed};
 ghost use Rattle.protocol.specs.Kinds as K;
 ghost use Rattle.rules.specs.Writing.{fitsHeader, fitsSigned};
