@@ -1,5 +1,5 @@
 /*
- * Krevilosh: RabbitMQ Streams frames, read, and the credit and publisher ledgers of one connection.
+ * Krevilosh: RabbitMQ Streams frames, read and written, and the credit and publisher ledgers of one connection.
  *
  * Link with libkrevilosh.a, which `rt staticlib krevilosh` writes to target/staticlib/. Nothing here allocates, keeps a
  * pointer, writes to a global variable or calls back, so every function may be called from any thread, as long as two
@@ -27,6 +27,7 @@ extern "C" {
  * Every function but the two that clear a ledger returns one uint64_t: the refusal number in its low eight bits, 0 where
  * the call is accepted, and a number above them:
  *   refusal 1            the bytes that the frame needs (4 to 4,294,967,299)
+ *   an accepted write    the frame's length
  *   otherwise            0
  */
 #define KREVILOSH_REFUSAL(answer) ((unsigned)((answer) & 0xff))
@@ -34,7 +35,7 @@ extern "C" {
 
 /* The refusal numbers. */
 #define KREVILOSH_FRAME_CUT 1           /* fewer than 4 bytes, or fewer than Size + 4 */
-#define KREVILOSH_FRAME_TOO_LARGE 2     /* Size above the frame limit */
+#define KREVILOSH_FRAME_TOO_LARGE 2     /* Size above the frame limit, or when writing above 4,294,967,295 */
 #define KREVILOSH_FRAME_TOO_SMALL 3     /* Size below 4 */
 #define KREVILOSH_UNKNOWN_KEY 4
 #define KREVILOSH_UNKNOWN_VERSION 5
@@ -62,8 +63,9 @@ extern "C" {
  *   a chunk                  fourteen: magic, type, entries, records, timestamp, epoch, first offset, checksum, data
  *                            length, trailer length, bloom size, reserved, then place and length of its data
  *
- * Places count from the first byte of the slice that was read. Slots that are not named are 0 after a read, and so is the
- * value of an offset specification of type 0 to 3.
+ * Places count from the first byte of the slice that was read, or that is handed to the writer as its source. Slots that
+ * are not named are 0 after a read, and a write does not look at them. The value of an offset specification of type 0 to
+ * 3 is 0 after a read and is not looked at by a write.
  *
  * A Credit for subscription 5 of 10 chunks is { 0x0009, 1, 5, 10 }. A Deliver, version 1, has its subscription id in slot
  * 2 and its chunk in slots 3 to 16; version 2 has the committed chunk id in slot 3 and its chunk in slots 4 to 17.
@@ -78,6 +80,15 @@ extern "C" {
  * Refusals: 1, 2, 3, 1, 4, 5, then those of the fields in wire order, then 11.
  */
 uint64_t krevilosh_read(const uint8_t *bytes, size_t len, uint32_t limit, uint64_t frame[24]);
+
+/*
+ * Writes a frame whose places are in the source to the start of out, and answers its length. Only that many bytes of out
+ * are changed.
+ * Refusals: 4, 5, then those of the fields in wire order (a number too wide for its field is 10; a chunk's header numbers
+ * are all checked with its type), then 2, then 12.
+ */
+uint64_t krevilosh_write(const uint64_t frame[24], const uint8_t *source, size_t source_len, uint32_t limit,
+                         uint8_t *out, size_t out_len);
 
 /* The shapes of list elements. */
 #define KREVILOSH_MESSAGE 1           /* [u64 B] of Publish: publishing id, message */
