@@ -116,7 +116,8 @@ uint64_t krevilosh_element(uint8_t shape, const uint8_t *source, size_t source_l
  * The message at an index of the chunk of a flat Deliver: message[0] is its place in the source, message[1] its length;
  * the other slots are 0.
  * Refusals: 4 for another key, 5 for another version, 6 for a place outside the source, 10 for a chunk of a type other
- * than 0 or an index at or above its entries, then those of the entries up to and including the one asked for.
+ * than 0, an index at or above its entries or an entry count above 65,535, then those of the entries up to and including
+ * the one asked for.
  */
 uint64_t krevilosh_message(const uint64_t frame[24], const uint8_t *source, size_t source_len, uint64_t index,
                            uint64_t message[8]);

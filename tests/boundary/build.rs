@@ -1,5 +1,5 @@
-//! With the feature `library`, links target/staticlib/libkrevilosh.a of the repository. Without it, or where it is not
-//! built, `archive` is not set and only the reference is there.
+//! Links target/staticlib/libkrevilosh.a of the repository. Where it is not built, `archive` is not set and only the
+//! reference is there.
 
 use std::path::Path;
 
@@ -8,7 +8,7 @@ fn main() {
     let archive = folder.join("libkrevilosh.a");
     println!("cargo::rustc-check-cfg=cfg(archive)");
     println!("cargo::rerun-if-changed={}", archive.display());
-    if std::env::var_os("CARGO_FEATURE_LIBRARY").is_some() && archive.exists() {
+    if archive.exists() {
         println!("cargo::rustc-link-search=native={}", folder.display());
         println!("cargo::rustc-link-lib=static=krevilosh");
         println!("cargo::rustc-cfg=archive");

@@ -195,7 +195,8 @@ pub fn message(frame: &Frame, source: &[u8], index: u64) -> Result<(u64, u64), R
     let Some(data) = part(source, place, length) else {
         return Err(Reason::Outside.into());
     };
-    if kind != 0 || index >= entries {
+    // An entry count wider than its field is not admitted.
+    if kind != 0 || index >= entries || entries > 0xffff {
         return Err(Reason::NotAdmitted.into());
     }
     let mut rest = data;
