@@ -52,7 +52,7 @@ fn behind_size(frame: Frame, src: &[u8], out: &mut [u8], w: Writer) -> Writer
             publisher_id,
             reference,
             stream,
-        } => layouts::write_declare_publisher(
+        } => data_layouts::write_declare_publisher(
             w,
             src,
             out,
@@ -64,28 +64,40 @@ fn behind_size(frame: Frame, src: &[u8], out: &mut [u8], w: Writer) -> Writer
         Frame::Publish {
             publisher_id,
             messages,
-        } => layouts::write_publish(w, src, out, publisher_id as u64, messages),
+        } => data_layouts::write_publish(w, src, out, publisher_id as u64, messages),
         Frame::PublishV2 {
             publisher_id,
             messages,
-        } => layouts::write_publish_v2(w, src, out, publisher_id as u64, messages),
+        } => data_layouts::write_publish_v2(w, src, out, publisher_id as u64, messages),
         Frame::PublishConfirm {
             publisher_id,
             publishing_ids,
-        } => layouts::write_publish_confirm(w, src, out, publisher_id as u64, publishing_ids),
+        } => data_layouts::write_publish_confirm(w, src, out, publisher_id as u64, publishing_ids),
         Frame::PublishError {
             publisher_id,
             errors,
-        } => layouts::write_publish_error(w, src, out, publisher_id as u64, errors),
+        } => data_layouts::write_publish_error(w, src, out, publisher_id as u64, errors),
         Frame::QueryPublisher {
             correlation_id,
             reference,
             stream,
-        } => layouts::write_query_publisher(w, src, out, correlation_id as u64, reference, stream),
+        } => data_layouts::write_query_publisher(
+            w,
+            src,
+            out,
+            correlation_id as u64,
+            reference,
+            stream,
+        ),
         Frame::DeletePublisher {
             correlation_id,
             publisher_id,
-        } => layouts::write_delete_publisher(w, out, correlation_id as u64, publisher_id as u64),
+        } => data_layouts::write_delete_publisher(
+            w,
+            out,
+            correlation_id as u64,
+            publisher_id as u64,
+        ),
         Frame::Subscribe {
             correlation_id,
             subscription_id,
@@ -93,7 +105,7 @@ fn behind_size(frame: Frame, src: &[u8], out: &mut [u8], w: Writer) -> Writer
             offset,
             credit,
             properties,
-        } => layouts::write_subscribe(
+        } => data_layouts::write_subscribe(
             w,
             src,
             out,
@@ -107,12 +119,12 @@ fn behind_size(frame: Frame, src: &[u8], out: &mut [u8], w: Writer) -> Writer
         Frame::Deliver {
             subscription_id,
             chunk,
-        } => layouts::write_deliver(w, src, out, subscription_id as u64, chunk),
+        } => data_layouts::write_deliver(w, src, out, subscription_id as u64, chunk),
         Frame::DeliverV2 {
             subscription_id,
             committed_chunk_id,
             chunk,
-        } => layouts::write_deliver_v2(
+        } => data_layouts::write_deliver_v2(
             w,
             src,
             out,
@@ -123,35 +135,42 @@ fn behind_size(frame: Frame, src: &[u8], out: &mut [u8], w: Writer) -> Writer
         Frame::Credit {
             subscription_id,
             credit,
-        } => layouts::write_credit(w, out, subscription_id as u64, credit as u64),
+        } => data_layouts::write_credit(w, out, subscription_id as u64, credit as u64),
         Frame::StoreOffset {
             reference,
             stream,
             offset,
-        } => layouts::write_store_offset(w, src, out, reference, stream, offset),
+        } => data_layouts::write_store_offset(w, src, out, reference, stream, offset),
         Frame::QueryOffset {
             correlation_id,
             reference,
             stream,
-        } => layouts::write_query_offset(w, src, out, correlation_id as u64, reference, stream),
+        } => data_layouts::write_query_offset(
+            w,
+            src,
+            out,
+            correlation_id as u64,
+            reference,
+            stream,
+        ),
         Frame::Unsubscribe {
             correlation_id,
             subscription_id,
-        } => layouts::write_unsubscribe(w, out, correlation_id as u64, subscription_id as u64),
+        } => data_layouts::write_unsubscribe(w, out, correlation_id as u64, subscription_id as u64),
         Frame::Create {
             correlation_id,
             stream,
             arguments,
-        } => layouts::write_create(w, src, out, correlation_id as u64, stream, arguments),
+        } => control_layouts::write_create(w, src, out, correlation_id as u64, stream, arguments),
         Frame::Delete {
             correlation_id,
             stream,
-        } => layouts::write_delete(w, src, out, correlation_id as u64, stream),
+        } => control_layouts::write_delete(w, src, out, correlation_id as u64, stream),
         Frame::Metadata {
             correlation_id,
             streams,
-        } => layouts::write_metadata(w, src, out, correlation_id as u64, streams),
-        Frame::MetadataUpdate { code, stream } => layouts::write_metadata_update(
+        } => control_layouts::write_metadata(w, src, out, correlation_id as u64, streams),
+        Frame::MetadataUpdate { code, stream } => control_layouts::write_metadata_update(
             w,
             src,
             out,
@@ -161,8 +180,8 @@ fn behind_size(frame: Frame, src: &[u8], out: &mut [u8], w: Writer) -> Writer
         Frame::PeerProperties {
             correlation_id,
             properties,
-        } => layouts::write_peer_properties(w, src, out, correlation_id as u64, properties),
-        Frame::SaslHandshake { correlation_id } => layouts::write_sasl_handshake(
+        } => control_layouts::write_peer_properties(w, src, out, correlation_id as u64, properties),
+        Frame::SaslHandshake { correlation_id } => control_layouts::write_sasl_handshake(
             w,
             out,
             correlation_id as u64,
@@ -171,7 +190,7 @@ fn behind_size(frame: Frame, src: &[u8], out: &mut [u8], w: Writer) -> Writer
             correlation_id,
             mechanism,
             opaque,
-        } => layouts::write_sasl_authenticate(
+        } => control_layouts::write_sasl_authenticate(
             w,
             src,
             out,
@@ -182,16 +201,16 @@ fn behind_size(frame: Frame, src: &[u8], out: &mut [u8], w: Writer) -> Writer
         Frame::Tune {
             frame_max,
             heartbeat,
-        } => layouts::write_tune(w, out, frame_max as u64, heartbeat as u64),
+        } => control_layouts::write_tune(w, out, frame_max as u64, heartbeat as u64),
         Frame::Open {
             correlation_id,
             virtual_host,
-        } => layouts::write_open(w, src, out, correlation_id as u64, virtual_host),
+        } => control_layouts::write_open(w, src, out, correlation_id as u64, virtual_host),
         Frame::Close {
             correlation_id,
             closing_code,
             closing_reason,
-        } => layouts::write_close(
+        } => control_layouts::write_close(
             w,
             src,
             out,
@@ -199,12 +218,12 @@ fn behind_size(frame: Frame, src: &[u8], out: &mut [u8], w: Writer) -> Writer
             closing_code as u64,
             closing_reason,
         ),
-        Frame::Heartbeat => layouts::write_heartbeat(w, out),
+        Frame::Heartbeat => control_layouts::write_heartbeat(w, out),
         Frame::Route {
             correlation_id,
             routing_key,
             super_stream,
-        } => layouts::write_route(
+        } => control_layouts::write_route(
             w,
             src,
             out,
@@ -215,12 +234,12 @@ fn behind_size(frame: Frame, src: &[u8], out: &mut [u8], w: Writer) -> Writer
         Frame::Partitions {
             correlation_id,
             super_stream,
-        } => layouts::write_partitions(w, src, out, correlation_id as u64, super_stream),
+        } => control_layouts::write_partitions(w, src, out, correlation_id as u64, super_stream),
         Frame::ConsumerUpdate {
             correlation_id,
             subscription_id,
             active,
-        } => layouts::write_consumer_update(
+        } => data_layouts::write_consumer_update(
             w,
             out,
             correlation_id as u64,
@@ -230,18 +249,24 @@ fn behind_size(frame: Frame, src: &[u8], out: &mut [u8], w: Writer) -> Writer
         Frame::ExchangeCommandVersions {
             correlation_id,
             commands,
-        } => layouts::write_exchange_command_versions(w, src, out, correlation_id as u64, commands),
+        } => control_layouts::write_exchange_command_versions(
+            w,
+            src,
+            out,
+            correlation_id as u64,
+            commands,
+        ),
         Frame::StreamStats {
             correlation_id,
             stream,
-        } => layouts::write_stream_stats(w, src, out, correlation_id as u64, stream),
+        } => control_layouts::write_stream_stats(w, src, out, correlation_id as u64, stream),
         Frame::CreateSuperStream {
             correlation_id,
             name,
             partitions,
             binding_keys,
             arguments,
-        } => layouts::write_create_super_stream(
+        } => control_layouts::write_create_super_stream(
             w,
             src,
             out,
@@ -254,13 +279,18 @@ fn behind_size(frame: Frame, src: &[u8], out: &mut [u8], w: Writer) -> Writer
         Frame::DeleteSuperStream {
             correlation_id,
             name,
-        } => layouts::write_delete_super_stream(w, src, out, correlation_id as u64, name),
+        } => control_layouts::write_delete_super_stream(w, src, out, correlation_id as u64, name),
         Frame::DeclarePublisherResponse {
             correlation_id,
             code,
         } => {
             let number = code.number;
-            layouts::write_declare_publisher_response(w, out, correlation_id as u64, number as u64)
+            data_layouts::write_declare_publisher_response(
+                w,
+                out,
+                correlation_id as u64,
+                number as u64,
+            )
         }
         Frame::QueryPublisherResponse {
             correlation_id,
@@ -268,7 +298,7 @@ fn behind_size(frame: Frame, src: &[u8], out: &mut [u8], w: Writer) -> Writer
             sequence,
         } => {
             let number = code.number;
-            layouts::write_query_publisher_response(
+            data_layouts::write_query_publisher_response(
                 w,
                 out,
                 correlation_id as u64,
@@ -281,21 +311,26 @@ fn behind_size(frame: Frame, src: &[u8], out: &mut [u8], w: Writer) -> Writer
             code,
         } => {
             let number = code.number;
-            layouts::write_delete_publisher_response(w, out, correlation_id as u64, number as u64)
+            data_layouts::write_delete_publisher_response(
+                w,
+                out,
+                correlation_id as u64,
+                number as u64,
+            )
         }
         Frame::SubscribeResponse {
             correlation_id,
             code,
         } => {
             let number = code.number;
-            layouts::write_subscribe_response(w, out, correlation_id as u64, number as u64)
+            data_layouts::write_subscribe_response(w, out, correlation_id as u64, number as u64)
         }
         Frame::CreditResponse {
             code,
             subscription_id,
         } => {
             let number = code.number;
-            layouts::write_credit_response(w, out, number as u64, subscription_id as u64)
+            data_layouts::write_credit_response(w, out, number as u64, subscription_id as u64)
         }
         Frame::QueryOffsetResponse {
             correlation_id,
@@ -303,7 +338,7 @@ fn behind_size(frame: Frame, src: &[u8], out: &mut [u8], w: Writer) -> Writer
             offset,
         } => {
             let number = code.number;
-            layouts::write_query_offset_response(
+            data_layouts::write_query_offset_response(
                 w,
                 out,
                 correlation_id as u64,
@@ -316,34 +351,41 @@ fn behind_size(frame: Frame, src: &[u8], out: &mut [u8], w: Writer) -> Writer
             code,
         } => {
             let number = code.number;
-            layouts::write_unsubscribe_response(w, out, correlation_id as u64, number as u64)
+            data_layouts::write_unsubscribe_response(w, out, correlation_id as u64, number as u64)
         }
         Frame::CreateResponse {
             correlation_id,
             code,
         } => {
             let number = code.number;
-            layouts::write_create_response(w, out, correlation_id as u64, number as u64)
+            control_layouts::write_create_response(w, out, correlation_id as u64, number as u64)
         }
         Frame::DeleteResponse {
             correlation_id,
             code,
         } => {
             let number = code.number;
-            layouts::write_delete_response(w, out, correlation_id as u64, number as u64)
+            control_layouts::write_delete_response(w, out, correlation_id as u64, number as u64)
         }
         Frame::MetadataResponse {
             correlation_id,
             brokers,
             streams,
-        } => layouts::write_metadata_response(w, src, out, correlation_id as u64, brokers, streams),
+        } => control_layouts::write_metadata_response(
+            w,
+            src,
+            out,
+            correlation_id as u64,
+            brokers,
+            streams,
+        ),
         Frame::PeerPropertiesResponse {
             correlation_id,
             code,
             properties,
         } => {
             let number = code.number;
-            layouts::write_peer_properties_response(
+            control_layouts::write_peer_properties_response(
                 w,
                 src,
                 out,
@@ -358,7 +400,7 @@ fn behind_size(frame: Frame, src: &[u8], out: &mut [u8], w: Writer) -> Writer
             mechanisms,
         } => {
             let number = code.number;
-            layouts::write_sasl_handshake_response(
+            control_layouts::write_sasl_handshake_response(
                 w,
                 src,
                 out,
@@ -373,7 +415,7 @@ fn behind_size(frame: Frame, src: &[u8], out: &mut [u8], w: Writer) -> Writer
             opaque,
         } => {
             let number = code.number;
-            layouts::write_sasl_authenticate_response(
+            control_layouts::write_sasl_authenticate_response(
                 w,
                 src,
                 out,
@@ -385,14 +427,14 @@ fn behind_size(frame: Frame, src: &[u8], out: &mut [u8], w: Writer) -> Writer
         Frame::TuneResponse {
             frame_max,
             heartbeat,
-        } => layouts::write_tune_response(w, out, frame_max as u64, heartbeat as u64),
+        } => control_layouts::write_tune_response(w, out, frame_max as u64, heartbeat as u64),
         Frame::OpenResponse {
             correlation_id,
             code,
             properties,
         } => {
             let number = code.number;
-            layouts::write_open_response(
+            control_layouts::write_open_response(
                 w,
                 src,
                 out,
@@ -406,7 +448,7 @@ fn behind_size(frame: Frame, src: &[u8], out: &mut [u8], w: Writer) -> Writer
             code,
         } => {
             let number = code.number;
-            layouts::write_close_response(w, out, correlation_id as u64, number as u64)
+            control_layouts::write_close_response(w, out, correlation_id as u64, number as u64)
         }
         Frame::RouteResponse {
             correlation_id,
@@ -414,7 +456,7 @@ fn behind_size(frame: Frame, src: &[u8], out: &mut [u8], w: Writer) -> Writer
             streams,
         } => {
             let number = code.number;
-            layouts::write_route_response(
+            control_layouts::write_route_response(
                 w,
                 src,
                 out,
@@ -429,7 +471,7 @@ fn behind_size(frame: Frame, src: &[u8], out: &mut [u8], w: Writer) -> Writer
             streams,
         } => {
             let number = code.number;
-            layouts::write_partitions_response(
+            control_layouts::write_partitions_response(
                 w,
                 src,
                 out,
@@ -444,7 +486,7 @@ fn behind_size(frame: Frame, src: &[u8], out: &mut [u8], w: Writer) -> Writer
             offset,
         } => {
             let number = code.number;
-            layouts::write_consumer_update_response(
+            data_layouts::write_consumer_update_response(
                 w,
                 out,
                 correlation_id as u64,
@@ -458,7 +500,7 @@ fn behind_size(frame: Frame, src: &[u8], out: &mut [u8], w: Writer) -> Writer
             commands,
         } => {
             let number = code.number;
-            layouts::write_exchange_command_versions_response(
+            control_layouts::write_exchange_command_versions_response(
                 w,
                 src,
                 out,
@@ -473,7 +515,7 @@ fn behind_size(frame: Frame, src: &[u8], out: &mut [u8], w: Writer) -> Writer
             statistics,
         } => {
             let number = code.number;
-            layouts::write_stream_stats_response(
+            control_layouts::write_stream_stats_response(
                 w,
                 src,
                 out,
@@ -487,7 +529,7 @@ fn behind_size(frame: Frame, src: &[u8], out: &mut [u8], w: Writer) -> Writer
             code,
         } => {
             let number = code.number;
-            layouts::write_create_super_stream_response(
+            control_layouts::write_create_super_stream_response(
                 w,
                 out,
                 correlation_id as u64,
@@ -499,7 +541,7 @@ fn behind_size(frame: Frame, src: &[u8], out: &mut [u8], w: Writer) -> Writer
             code,
         } => {
             let number = code.number;
-            layouts::write_delete_super_stream_response(
+            control_layouts::write_delete_super_stream_response(
                 w,
                 out,
                 correlation_id as u64,

@@ -1,0 +1,21 @@
+-- Its fields one behind another are the row.
+use Rattle.fields.proofs.Chains.{done, link}
+use Rattle.layouts.proofs.Contents.{whole-content}
+use Rattle.protocol.specs.Table.{table, rowIn}
+use mathlib.Core.Path.{refl, _∙_}
+use borrow.Author.Needs.{needs}
+use Rattle.control_layouts.proofs.connection.read_sasl_handshake.Statement.{statement}
+use Rattle.control_layouts.proofs.connection.read_sasl_handshake.Tie as tie
+
+pub read-sasl-handshake-spec : {M : Type 1} → statement M
+unfolding table rowIn
+read-sasl-handshake-spec =
+    tie.close
+    (tie.spec
+    (λ c κs. search needs)
+    (λ c κs. search needs)
+    (λ c κs. search needs)
+    (λ c.
+    let correlation-id = c .before .before in
+    c .finish .ensures ∙ whole-content 0x0012 1 refl (correlation-id .before .content .ensures)
+    (link (correlation-id .u32-field .ensures) done)))

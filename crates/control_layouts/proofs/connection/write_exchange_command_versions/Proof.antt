@@ -1,0 +1,28 @@
+-- Its fields one behind another are the row.
+use Rattle.fields.proofs.Steps.{done, link}
+use Rattle.layouts.proofs.Contents.{layout-written}
+use Rattle.protocol.specs.Table.{table, rowIn}
+use mathlib.Core.Path.{refl, _∙_}
+use borrow.Author.Needs.{needs}
+use Rattle.control_layouts.proofs.connection.write_exchange_command_versions.Statement.{statement}
+use Rattle.control_layouts.proofs.connection.write_exchange_command_versions.Tie as tie
+
+pub write-exchange-command-versions-spec : {M : Type 1} → statement M
+unfolding table rowIn
+write-exchange-command-versions-spec =
+    tie.close
+    (tie.spec
+    (λ c κs. search needs)
+    (λ c κs. search needs)
+    (λ c κs. search needs)
+    (λ c.
+    let commands = c .before in
+    let correlation-id = commands .before .before .before .before in
+    let head = correlation-id .before .before .before .before in
+    commands .out3 .given ∙ correlation-id .out2 .given ∙ head .out .given)
+    (λ c.
+    let commands = c .before .before in
+    let correlation-id = commands .before .before .before .before in
+    let head = correlation-id .before .before .before .before in
+    layout-written 0x001b 1 _ refl (head .write-head .ensures)
+    (link (correlation-id .write-u32 .ensures) (link (commands .write-list .ensures) done))))

@@ -1,0 +1,25 @@
+-- Its fields one behind another are the row.
+use Rattle.fields.proofs.Chains.{done, link}
+use Rattle.layouts.proofs.Contents.{whole-content}
+use Rattle.protocol.specs.Table.{table, rowIn}
+use mathlib.Core.Path.{refl, _∙_}
+use borrow.Author.Needs.{needs}
+use Rattle.data_layouts.proofs.consuming.read_query_offset.Statement.{statement}
+use Rattle.data_layouts.proofs.consuming.read_query_offset.Tie as tie
+
+pub read-query-offset-spec : {M : Type 1} → statement M
+unfolding table rowIn
+read-query-offset-spec =
+    tie.close
+    (tie.spec
+    (λ c κs. search needs)
+    (λ c κs. search needs)
+    (λ c κs. search needs)
+    (λ c κs. search needs)
+    (λ c κs. search needs)
+    (λ c.
+    let stream = c .before .before .before in
+    let reference = stream .before .before .before in
+    let correlation-id = reference .before .before in
+    c .finish .ensures ∙ whole-content 0x000b 1 refl (correlation-id .before .content .ensures)
+    (link (correlation-id .u32-field .ensures) (link (reference .string-field .ensures) (link (stream .string-field2 .ensures) done)))))

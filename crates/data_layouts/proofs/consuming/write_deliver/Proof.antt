@@ -1,0 +1,28 @@
+-- Its fields one behind another are the row.
+use Rattle.fields.proofs.Steps.{done, link}
+use Rattle.layouts.proofs.Contents.{layout-written}
+use Rattle.protocol.specs.Table.{table, rowIn}
+use mathlib.Core.Path.{refl, _∙_}
+use borrow.Author.Needs.{needs}
+use Rattle.data_layouts.proofs.consuming.write_deliver.Statement.{statement}
+use Rattle.data_layouts.proofs.consuming.write_deliver.Tie as tie
+
+pub write-deliver-spec : {M : Type 1} → statement M
+unfolding table rowIn
+write-deliver-spec =
+    tie.close
+    (tie.spec
+    (λ c κs. search needs)
+    (λ c κs. search needs)
+    (λ c κs. search needs)
+    (λ c.
+    let chunk = c .before in
+    let subscription-id = chunk .before .before .before .before in
+    let head = subscription-id .before .before .before .before in
+    chunk .out3 .given ∙ subscription-id .out2 .given ∙ head .out .given)
+    (λ c.
+    let chunk = c .before .before in
+    let subscription-id = chunk .before .before .before .before in
+    let head = subscription-id .before .before .before .before in
+    layout-written 0x0008 1 _ refl (head .write-head .ensures)
+    (link (subscription-id .write-u8 .ensures) (link (chunk .write-chunk .ensures) done))))

@@ -1,0 +1,27 @@
+-- Its fields one behind another are the row.
+use Rattle.fields.proofs.Chains.{done, link}
+use Rattle.layouts.proofs.Contents.{whole-content}
+use Rattle.protocol.specs.Table.{table, rowIn}
+use mathlib.Core.Path.{refl, _∙_}
+use borrow.Author.Needs.{needs}
+use Rattle.data_layouts.proofs.publishing.read_declare_publisher.Statement.{statement}
+use Rattle.data_layouts.proofs.publishing.read_declare_publisher.Tie as tie
+
+pub read-declare-publisher-spec : {M : Type 1} → statement M
+unfolding table rowIn
+read-declare-publisher-spec =
+    tie.close
+    (tie.spec
+    (λ c κs. search needs)
+    (λ c κs. search needs)
+    (λ c κs. search needs)
+    (λ c κs. search needs)
+    (λ c κs. search needs)
+    (λ c κs. search needs)
+    (λ c.
+    let stream = c .before .before .before in
+    let reference = stream .before .before in
+    let publisher-id = reference .before .before in
+    let correlation-id = publisher-id .before .before in
+    c .finish .ensures ∙ whole-content 0x0001 1 refl (correlation-id .before .content .ensures)
+    (link (correlation-id .u32-field .ensures) (link (publisher-id .u8-field .ensures) (link (reference .nullable-field .ensures) (link (stream .string-field .ensures) done))))))

@@ -1,0 +1,28 @@
+-- Its fields one behind another are the row.
+use Rattle.fields.proofs.Steps.{done, link}
+use Rattle.layouts.proofs.Contents.{layout-written}
+use Rattle.protocol.specs.Table.{table, rowIn}
+use mathlib.Core.Path.{refl, _∙_}
+use borrow.Author.Needs.{needs}
+use Rattle.data_layouts.proofs.publishing.write_publish_confirm.Statement.{statement}
+use Rattle.data_layouts.proofs.publishing.write_publish_confirm.Tie as tie
+
+pub write-publish-confirm-spec : {M : Type 1} → statement M
+unfolding table rowIn
+write-publish-confirm-spec =
+    tie.close
+    (tie.spec
+    (λ c κs. search needs)
+    (λ c κs. search needs)
+    (λ c κs. search needs)
+    (λ c.
+    let publishing-ids = c .before in
+    let publisher-id = publishing-ids .before .before .before .before in
+    let head = publisher-id .before .before .before .before in
+    publishing-ids .out3 .given ∙ publisher-id .out2 .given ∙ head .out .given)
+    (λ c.
+    let publishing-ids = c .before .before in
+    let publisher-id = publishing-ids .before .before .before .before in
+    let head = publisher-id .before .before .before .before in
+    layout-written 0x0003 1 _ refl (head .write-head .ensures)
+    (link (publisher-id .write-u8 .ensures) (link (publishing-ids .write-list .ensures) done))))
