@@ -4,4 +4,5 @@ pub mod TwosComplement
 pub mod Casts
 pub mod Splice
 pub mod Following
+pub mod Ascii
 pub mod ScalarValues

@@ -3,7 +3,7 @@ use mathlib.Core.Bool.{Bool, true, false, cond, _&&_}
 use mathlib.Core.List.{List, [], _∷_}
 use mathlib.Core.Option.{Option, none, some}
 use Prim.Native.Nat.{ℕ, zero, suc}
-use lib.Dec.{leb, eqb}
+use lib.Dec.{leb, ltb, eqb}
 use lib.ListN.{replicate}
 use Rattle.wire.specs.declared.utf8.Pending.{Pending}
 
@@ -61,6 +61,11 @@ whole (some (r ∷ rs)) = false
 -- UTF8-octets: the text is whole characters, one after another.
 abbrev pub utf8 : List ℕ → Bool
 utf8 s = whole (following (some []) s)
+
+-- Every byte is ASCII.
+unfoldable pub ascii : List ℕ → Bool
+ascii [] = true
+ascii (b ∷ s) = ltb b 0x80 && ascii s
 
 -- What the code's state says has to follow.
 abbrev pub ranges : ℕ → Range → List Range

@@ -2,7 +2,9 @@
 ghost use mathlib.Core.Path.{_≡_};
 ghost use mathlib.Core.List.{[]};
 ghost use mathlib.Core.Option.{some};
-ghost use Rattle.wire.specs.Utf8.{utf8, first, next, expects};
+ghost use Prim.Native.Nat.{_+_, _≤_};
+ghost use lib.ListN.{length, take, drop};
+ghost use Rattle.wire.specs.Utf8.{utf8, ascii, first, next, expects};
 
 // What has to follow in a character that has begun: `left` bytes, the first of them from `low` to `high`, the others
 // tail bytes. `left` is 0 between two characters, and WRONG once nothing can make the text right.
@@ -14,9 +16,13 @@ pub struct Pending {
 
 const WRONG: u8 = 255;
 
+// Most texts are ASCII alone, which is told eight bytes at a time.
 pub fn is_utf8(s: &[u8]) -> bool
     ensures { λ r. ⌜ r ≡ utf8 (now (s .entry)) ⌝ }
 {
+    if is_ascii(s) {
+        return true;
+    }
     let mut p = after_tails(0);
     let mut i = 0;
     while i < s.len() {
@@ -24,6 +30,53 @@ pub fn is_utf8(s: &[u8]) -> bool
         i += 1;
     }
     p.left == 0
+}
+
+// Eight bytes at a time; the last eight may overlap those before them.
+fn is_ascii(s: &[u8]) -> bool
+    ensures { λ r. ⌜ r ≡ ascii (now (s .entry)) ⌝ }
+{
+    let n = s.len();
+    if n < 8 {
+        return bytes_ascii(s);
+    }
+    let last = n - 8;
+    let mut i = 0;
+    while i < last {
+        if !word_ascii(s, i) {
+            return false;
+        }
+        i += 8;
+    }
+    word_ascii(s, last)
+}
+
+fn bytes_ascii(s: &[u8]) -> bool
+    ensures { λ r. ⌜ r ≡ ascii (now (s .entry)) ⌝ }
+{
+    let mut i = 0;
+    while i < s.len() {
+        if 0x7f < s[i] {
+            return false;
+        }
+        i += 1;
+    }
+    true
+}
+
+// The eight bytes from a place on. `&` evaluates both sides, so that the compiler makes one test of all eight.
+fn word_ascii(s: &[u8], i: usize) -> bool
+    requires { ⌜ i + 8 ≤ length (now s) ⌝ }
+    ensures { λ r. ⌜ r ≡ ascii (take 8 (drop i (now (s .entry)))) ⌝ }
+{
+    four_ascii(s, i) & four_ascii(s, i + 4)
+}
+
+fn four_ascii(s: &[u8], i: usize) -> bool
+    requires { ⌜ i + 4 ≤ length (now s) ⌝ }
+    ensures { λ r. ⌜ r ≡ ascii (take 4 (drop i (now (s .entry)))) ⌝ }
+{
+    (s[i] < 0x80) & (s[i + 1] < 0x80) & (s[i + 2] < 0x80) & (s[i + 3] < 0x80)
 }
 
 fn after_byte(p: Pending, b: u8) -> Pending

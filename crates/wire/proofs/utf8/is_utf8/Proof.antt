@@ -1,4 +1,5 @@
--- The invariant: what has to follow the whole text is what has to follow the rest of it after the state reached.
+-- A text of ASCII alone is UTF-8. For any other, the invariant: what has to follow the whole text is what has to
+-- follow the rest of it after the state reached.
 use mathlib.Core.Path.{_≡_, refl, _∙_, sym, ap}
 use mathlib.Core.List.{[]}
 use mathlib.Core.Option.{some}
@@ -7,6 +8,7 @@ use borrow.Author.Needs.{needs}
 use lib.ListN.{length, drop}
 use Rattle.wire.specs.Utf8.{following, expects}
 use Rattle.wire.proofs.Following.{start, turn, ended}
+use Rattle.wire.proofs.Ascii.{ascii-utf8}
 use Rattle.wire.proofs.utf8.is_utf8.Statement.{statement}
 use Rattle.wire.proofs.utf8.is_utf8.Tie as tie
 
@@ -16,6 +18,9 @@ Inv-loop s p₀ i₀ p i = (i ≤ length s) × (following (some []) s ≡ follow
 abbrev μ-loop : tie.MeasureT-loop
 μ-loop s p₀ i₀ p i = length s - i
 
+returns : tie.Need-returns Inv-loop μ-loop
+returns c = sym (ascii-utf8 _ (sym (c .before .is-ascii .ensures) ∙ c .if1 .taken))
+
 loop-holds : tie.Need-loop-holds Inv-loop μ-loop
 loop-holds c = (search needs, start _ _ (c .after-tails .ensures))
 
@@ -24,8 +29,8 @@ loop-again c =
     let l = c .before .before .before in
     (search needs, turn _ _ _ _ (c .before .before .loop-test .taken) (l .loop .inv .1) (c .after-byte .ensures))
 
-returns : tie.Need-returns Inv-loop μ-loop
-returns c = ended _ _ _ (c .before .loop-test .left) (c .before .before .loop .inv .1)
+returns-2 : tie.Need-returns-2 Inv-loop μ-loop
+returns-2 c = ended _ _ _ (c .before .loop-test .left) (c .before .before .loop .inv .1)
 
 pub is-utf8-spec : {M : Type 1} → statement M
 is-utf8-spec =
@@ -34,10 +39,12 @@ is-utf8-spec =
     Inv-loop
     μ-loop
     (λ c κs. search needs)
+    returns
+    (λ c κs. search needs)
     loop-holds
     (λ c. search needs)
     (λ c κs. search needs)
     (λ c. search needs)
     (λ c. search needs)
     loop-again
-    returns)
+    returns-2)
