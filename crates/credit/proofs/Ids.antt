@@ -70,7 +70,7 @@ deliver-rows version s = by (eqb version 1) (eqb version 2)
     by false true = begins (u64 · chunk · end) s
     by false false = omega arith
 
-first-moved : (fs : List (Field Place)) → firstNumber (map (overPlaces (further 8)) fs) ≡ firstNumber fs
+pub first-moved : (fs : List (Field Place)) → firstNumber (map (overPlaces (further 8)) fs) ≡ firstNumber fs
 first-moved [] = refl
 first-moved (f ∷ fs) = refl
 

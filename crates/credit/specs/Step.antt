@@ -15,8 +15,8 @@ use Rattle.ledger.specs.declared.Change.{Change}
 use Rattle.credit.specs.Calls.{Call, opening, grant, closing, received, Yield, nothing, frame, Refusal, number, Reply, readAnswer, deliverId}
 use Rattle.credit.specs.declared.receiving.Received.{Received}
 use Rattle.credit.specs.declared.receiving.Received.the-variants.{Reading, Refused}
-use Rattle.credit.specs.declared.receiving.Subscription.{Subscription}
-use Rattle.credit.specs.declared.receiving.Subscription.the-variants.{Id, Nothing}
+use Rattle.credit.specs.declared.subscription.Subscription.{Subscription}
+use Rattle.credit.specs.declared.subscription.Subscription.the-variants.{Id, Nothing}
 
 -- What a Deliver asks of its id: to take one from the balance, 15 if there is none.
 abbrev pub spend : Op

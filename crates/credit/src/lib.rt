@@ -2,6 +2,7 @@
 // in an array that the host lends.
 mod calls;
 mod receiving;
+mod subscription;
 
 pub use calls::clear;
 pub use calls::close;
@@ -11,3 +12,7 @@ pub use calls::open;
 pub use calls::state;
 pub use receiving::Received;
 pub use receiving::receive;
+pub use subscription::Subscription;
+pub use subscription::affords;
+pub use subscription::spend;
+pub use subscription::subscription_of;

@@ -3,6 +3,7 @@ ghost use mathlib.Core.Path.{_≡_};
 ghost use Rattle.protocol.specs.Frames.{fieldsOf};
 ghost use Rattle.credit.specs.Calls.{received, deliverId};
 ghost use Rattle.credit.specs.Step.{answer, after, answerOfReceived, idOf};
+use crate::subscription::Subscription;
 use layouts::Reading;
 use ledger::Change;
 use protocol::Frame;
@@ -13,11 +14,6 @@ pub enum Received {
     Reading(Reading),
     // A Deliver whose id is not open (13) or has no credit left (15).
     Refused(u8),
-}
-
-enum Subscription {
-    Id(u8),
-    Nothing,
 }
 
 // The frame is read first; if it is a Deliver, then 13, then 15, else the balance falls by one. Other frames leave the
