@@ -1,0 +1,19 @@
+-- What a writer that knows only some frames may answer: the frame's length, and then the output is what writing gives; or that it has
+-- not written, and then the output is as it was.
+use mathlib.Core.Path.{_≡_}
+use mathlib.Core.List.{List}
+use Prim.Native.Nat.{ℕ}
+use lib.ListN.{drop}
+use Rattle.protocol.specs.Table.{rowOf}
+use Rattle.rules.specs.Writing.{Writing, length, writeRow, writeEncoded}
+use Rattle.flat.specs.Unflat.{unflatRow}
+use Rattle.fast_writing.specs.declared.writing.Fast.{Fast}
+use Rattle.fast_writing.specs.declared.writing.Fast.the-variants.{Length, Unwritten}
+
+abbrev pub WritesAs : Writing → List ℕ → Fast → List ℕ → Type 0
+WritesAs w old Unwritten new = new ≡ old
+WritesAs w old (Length n) new = w ≡ record { answer = length n; out = new }
+
+-- Writing the slots of a key and a version.
+abbrev pub writeRowOf : ℕ → ℕ → List ℕ → List ℕ → ℕ → List ℕ → Writing
+writeRowOf key version slots src limit out = writeEncoded key version (writeRow (rowOf key version) src (unflatRow (rowOf key version) (drop 2 slots))) limit out

@@ -1,0 +1,4 @@
+-- Writing the most frequent frames.
+pub mod Answer
+pub mod Checks
+pub mod Puts
