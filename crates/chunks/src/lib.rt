@@ -9,5 +9,6 @@ pub use chunk::write_chunk;
 pub use chunk_type::has_entries;
 pub use chunk_type::is_chunk_type;
 pub use entry::ReadEntry;
+pub use entry::entries_end;
 pub use entry::read_entry;
 pub use entry::skip_entries;

@@ -18,10 +18,7 @@ use Rattle.protocol.specs.declared.place.Place.{Place}
 use Rattle.rules.specs.Outcome.{Outcome, got, refused, then, mapped, repeated}
 use Rattle.rules.specs.Reading.{readNumber, readField, readRow}
 use Rattle.rules.proofs.Numbers.{number-there, whole-width}
-use Rattle.fields.specs.Cursor.{cursor}
-use Rattle.fields.specs.declared.cursor.Cursor.{Cursor}
-use Rattle.fields.proofs.Landing.{fresh}
-use Rattle.fields.proofs.Loops.{ends}
+use Rattle.fields.specs.Ends.{endOf}
 use Rattle.fields.specs.Fixed.{elementWidth, fixedEnd}
 use Rattle.fields.specs.declared.fixed.Fixed.{Fixed}
 use Rattle.fields.specs.declared.fixed.Fixed.the-variants.{End, Unknown}
@@ -102,8 +99,8 @@ module _ (len at width count : ℕ) where
       by false i true j = let k = rw (i, j) at h in record { some-width = eqb-false _ _ i; is = cc; fits = leb-true _ _ j }
       by false i false j = absurd (let k = rw (i, j) at h in let z : _≡_ {A = ℕ} 0 1 = cc in omega arith)
 
--- So a known end is where the elements leave the cursor.
-pub known-end : (k : Element) (s : List ℕ) (c d : Cursor) (n w e : ℕ) → Bytes s → c .refused ≡ 0 → w ≡ elementWidth k → End e ≡ fixedEnd (length s) (c .at) w n → d ≡ cursor (c .base) e 0 → d ≡ ends (readRow (elementRow k)) n s c
-known-end k s c d n w e b h i j f =
-    let x = known (length s) (c .at) (elementWidth k) n e (rw i at j) in
-    rw (fresh (repeated (readRow (elementRow k)) n) s c h, repeated-read s b (of-width k (x .some-width)) n (c .at) (x .fits), ← x .is) f
+-- So a known end is where the elements end.
+pub known-end : (k : Element) (s : List ℕ) (at n w e : ℕ) → Bytes s → w ≡ elementWidth k → End e ≡ fixedEnd (length s) at w n → e ≡ endOf (repeated (readRow (elementRow k)) n s at)
+known-end k s at n w e b i j =
+    let x = known (length s) at (elementWidth k) n e (rw i at j) in
+    rw (repeated-read s b (of-width k (x .some-width)) n at (x .fits)) (x .is)

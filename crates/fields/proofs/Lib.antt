@@ -6,6 +6,7 @@ pub mod OffsetFields
 pub mod Chains
 pub mod Loops
 pub mod FixedWidth
+pub mod PlainEnds
 pub mod ListFields
 pub mod Steps
 pub mod Parts

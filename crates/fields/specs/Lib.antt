@@ -1,4 +1,5 @@
 -- How the readers' cursor goes with the definitions of reading.
 pub mod Cursor
+pub mod Ends
 pub mod Fixed
 pub mod Writer

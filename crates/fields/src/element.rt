@@ -35,6 +35,22 @@ pub fn skip_element(s: &[u8], c: Cursor, kind: Element) -> Cursor
     }
 }
 
+// Until the count is met or an element is refused.
+pub fn each_element(s: &[u8], start: Cursor, kind: Element, count: usize) -> Cursor
+    ensures { λ r. ⌜ r ≡ landed (start .base) (from (repeated (readRow (elementRow kind)) count) (now (s .entry)) start) ⌝ }
+{
+    let mut c = start;
+    let mut i: usize = 0;
+    while i < count {
+        if c.refused != 0 {
+            return c;
+        }
+        c = skip_element(s, c, kind);
+        i += 1;
+    }
+    c
+}
+
 fn message(s: &[u8], c: Cursor) -> Cursor
     ensures { λ r. ⌜ r ≡ landed (c .base) (from (readRow (elementRow Message)) (now (s .entry)) c) ⌝ }
 {

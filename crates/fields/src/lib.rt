@@ -4,6 +4,7 @@
 mod count;
 mod cursor;
 mod element;
+mod ends;
 mod fixed;
 mod list;
 mod number;
@@ -14,6 +15,9 @@ mod writer;
 
 pub use cursor::Cursor;
 pub use element::skip_element;
+pub use ends::bytes_end;
+pub use ends::elements_end;
+pub use ends::text_end;
 pub use list::ReadList;
 pub use list::list_field;
 pub use list::skip_elements;

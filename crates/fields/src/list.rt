@@ -10,10 +10,8 @@ ghost use Rattle.fields.specs.Cursor.{from, landed, Reads};
 ghost use Rattle.fields.specs.Writer.{state, measured, stepField};
 use crate::count::list_count;
 use crate::cursor::Cursor;
-use crate::element::skip_element;
-use crate::fixed::Fixed;
-use crate::fixed::element_width;
-use crate::fixed::fixed_end;
+use crate::element::each_element;
+use crate::ends::elements_end;
 use crate::source::is_outside;
 use crate::writer::Writer;
 use protocol::Element;
@@ -66,26 +64,11 @@ pub fn skip_elements(s: &[u8], start: Cursor, kind: Element, count: usize) -> Cu
     if start.refused != 0 {
         return start;
     }
-    match fixed_end(s.len(), at, element_width(kind), count) {
-        Fixed::End(end) => start.to(end),
-        Fixed::Unknown => each_element(s, start, kind, count),
+    let end = elements_end(s, at, kind, count);
+    if end == 0 {
+        return each_element(s, start, kind, count);
     }
-}
-
-// Until the count is met or an element is refused.
-fn each_element(s: &[u8], start: Cursor, kind: Element, count: usize) -> Cursor
-    ensures { λ r. ⌜ r ≡ landed (start .base) (from (repeated (readRow (elementRow kind)) count) (now (s .entry)) start) ⌝ }
-{
-    let mut c = start;
-    let mut i: usize = 0;
-    while i < count {
-        if c.refused != 0 {
-            return c;
-        }
-        c = skip_element(s, c, kind);
-        i += 1;
-    }
-    c
+    start.to(end)
 }
 
 // A list: its count, and the place of its encoded elements.

@@ -6,8 +6,8 @@ use Rattle.rules.proofs.Bounds.{numbered-row}
 use Rattle.rules.specs.Reading.{readRow}
 use mathlib.Core.Path.{_≡_}
 use borrow.Author.Needs.{needs}
-use Rattle.fields.proofs.list.each_element.Statement.{statement}
-use Rattle.fields.proofs.list.each_element.Tie as tie
+use Rattle.fields.proofs.element.each_element.Statement.{statement}
+use Rattle.fields.proofs.element.each_element.Tie as tie
 
 abbrev Inv-loop : tie.InvT-loop
 Inv-loop s kind count c₀ i₀ c i = (i ≤ count) × (ends (readRow (elementRow kind)) count s c₀ ≡ ends (readRow (elementRow kind)) (count - i) s c)

@@ -1,0 +1,208 @@
+-- Where reading ends, as a plain place. A place other than 0 was read to. At 0 something was refused, or it began at 0 and
+-- took no bytes, and then any number of the like end at 0 too: so 0 ends every loop. Assumes nothing.
+use mathlib.Core.Path.{_≡_, refl, _∙_, sym, ap}
+use mathlib.Core.Bool.{Bool, true, false, not, cond}
+use mathlib.Core.List.{List, [], _∷_}
+use Prim.Native.Nat.{ℕ, zero, suc, _+_, _-_, _*_, _/_, _^_, _<_, _≤_}
+use native.Mathlib.Omega.{arith}
+use lib.Dec.{ltb}
+use lib.IntN.{ℤ, pos, negsuc}
+use lib.ListN.{length, take, drop}
+use borrow.Author.Tests.{ltb-true, ltb-false, lt-ltb, le-ltb}
+use Rattle.wire.specs.Integers.{Bytes, bigEndian, numberAt}
+use Rattle.wire.specs.Signed.{signed}
+use Rattle.wire.specs.declared.integers.Number.the-variants.{Value, Cut}
+use Rattle.wire.proofs.TwosComplement.{below-half, above-half}
+use Rattle.wire.proofs.Widths.{is-there, is-cut}
+use Rattle.protocol.specs.Fields.{Field, number}
+use Rattle.protocol.specs.Kinds.{Kind, T, elementRow, lengthWidth, Row, end, _·_}
+use Rattle.protocol.specs.declared.kind.Element.the-variants.{Message, Name, Property}
+use Rattle.protocol.specs.declared.kind.Form.{Form}
+use Rattle.protocol.specs.declared.kind.Form.the-variants.{Text, Reference, Bytes as Raw}
+use Rattle.protocol.specs.declared.place.Place.{Place}
+use Rattle.rules.specs.Outcome.{Outcome, got, refused, then, repeated}
+use Rattle.rules.specs.Reading.{readUnsigned, readString, readBody, readField, readRow, tooLong, isText}
+use Rattle.rules.proofs.Bounds.{Numbered, Bounded, bounded-field, numbered-repeated}
+use Rattle.rules.proofs.Numbers.{number-there, number-cut, whole-width}
+use Rattle.fields.specs.Cursor.{cursor, landed}
+use Rattle.fields.specs.Ends.{endOf}
+use Rattle.fields.specs.declared.cursor.Cursor.{Cursor}
+use Rattle.fields.proofs.Landing.{fresh}
+use Rattle.fields.proofs.Loops.{ends}
+use Rattle.fields.proofs.StringFields.{body-cut, body-not-text, body-read}
+
+-- A loop over things of one sort: what is left to read from the place reached ends where the whole does.
+module _ {A : Type 0} (read : List ℕ → ℕ → Outcome A) (s : List ℕ) where
+  pub end-step : (n at e : ℕ) → e ≡ endOf (read s at) → (e ≡ 0 → ⊥) → endOf (repeated read (suc n) s at) ≡ endOf (repeated read n s e)
+  unfolding repeated
+  end-step n at e h k = by (read s at) h
+    where
+      by : (o : Outcome A) → e ≡ endOf o → endOf (then o (λ a next. repeated read n s next)) ≡ endOf (repeated read n s e)
+      by (got a next) i = rw i
+      by (refused m p) i = absurd (k i)
+
+  -- What takes no bytes at 0 stays there.
+  end-stays : (a : A) → read s 0 ≡ got a 0 → (n : ℕ) → endOf (repeated read n s 0) ≡ 0
+  unfolding repeated
+  end-stays a h zero = refl
+  end-stays a h (suc n) = rw h (end-stays a h n)
+
+  pub end-refused : ((at : ℕ) → Bounded s at (read s at)) → (n at e : ℕ) → e ≡ endOf (read s at) → e ≡ 0 → 0 ≡ endOf (repeated read (suc n) s at)
+  unfolding repeated
+  end-refused bounded n at e h k = by (read s at) refl (bounded at) (sym k ∙ h)
+    where
+      by : (o : Outcome A) → read s at ≡ o → Bounded s at o → 0 ≡ endOf o → 0 ≡ endOf (then o (λ a next. repeated read n s next))
+      by (got a next) i b z =
+          let at-0 : at ≡ 0 = omega (arith, b .0) in
+          let next-0 : next ≡ 0 = sym z in
+          rw next-0 (sym (end-stays a (rw (at-0, next-0) at i) n))
+      by (refused m p) i b z = refl
+
+  pub loop-start : (n at : ℕ) → endOf (repeated read (n - 0) s at) ≡ endOf (repeated read n s at)
+  loop-start n at = let e : n - 0 ≡ n = omega arith in rw e
+
+  pub loop-turn : (n i start at e : ℕ) → i < n → endOf (repeated read (n - i) s at) ≡ endOf (repeated read n s start) → e ≡ endOf (read s at) → (e ≡ 0 → ⊥) → endOf (repeated read (n - (i + 1)) s e) ≡ endOf (repeated read n s start)
+  loop-turn n i start at e l p h k =
+      let j : n - i ≡ suc (n - (i + 1)) = omega arith in
+      sym (end-step (n - (i + 1)) at e h k) ∙ rw j at p
+
+  pub loop-stopped : ((at : ℕ) → Bounded s at (read s at)) → (n i start at e : ℕ) → i < n → endOf (repeated read (n - i) s at) ≡ endOf (repeated read n s start) → e ≡ endOf (read s at) → e ≡ 0 → 0 ≡ endOf (repeated read n s start)
+  loop-stopped bounded n i start at e l p h k =
+      let j : n - i ≡ suc (n - (i + 1)) = omega arith in
+      end-refused bounded (n - (i + 1)) at e h k ∙ rw j at p
+
+  pub loop-ended : (n i start at : ℕ) → n ≤ i → endOf (repeated read (n - i) s at) ≡ endOf (repeated read n s start) → at ≡ endOf (repeated read n s start)
+  unfolding repeated
+  loop-ended n i start at l p = let j : n - i ≡ 0 = omega arith in rw j at p
+
+  -- The cursor at an end that is no 0.
+  pub end-landed : (n e : ℕ) (c d : Cursor) → c .refused ≡ 0 → e ≡ endOf (repeated read n s (c .at)) → (e ≡ 0 → ⊥) → d ≡ cursor (c .base) e 0 → d ≡ ends read n s c
+  end-landed n e c d z h k f = rw (fresh (repeated read n) s c z) (by (repeated read n s (c .at)) h)
+    where
+      by : (o : Outcome Unit) → e ≡ endOf o → d ≡ landed (c .base) o
+      by (got a next) i = f ∙ ap (λ (x : ℕ). cursor (c .base) x 0) i
+      by (refused m p) i = absurd (k i)
+
+  -- The end where a loop that carries a cursor leaves it.
+  module _ (numbered : (t : List ℕ) (at : ℕ) → Numbered (read t at)) (n at : ℕ) (c d : Cursor) (f : c ≡ cursor 0 at 0) (g : d ≡ ends read n s c) where
+    arrived : d ≡ landed 0 (repeated read n s at)
+    arrived = g ∙ ap (ends read n s) f ∙ ap (landed 0) (fresh (repeated read n) s (cursor 0 at 0) refl)
+
+    pub end-walked : d .refused ≡ 0 → d .at ≡ endOf (repeated read n s at)
+    end-walked h = by (repeated read n s at) (numbered-repeated read numbered n s at) arrived
+      where
+        by : (o : Outcome Unit) → Numbered o → d ≡ landed 0 o → d .at ≡ endOf o
+        by (got a next) k i = ap (λ (x : Cursor). x .at) i
+        by (refused m p) k i = absurd (k (sym (ap (λ (x : Cursor). x .refused) i) ∙ h))
+
+    pub end-stopped : (d .refused ≡ 0 → ⊥) → 0 ≡ endOf (repeated read n s at)
+    end-stopped h = by (repeated read n s at) arrived
+      where
+        by : (o : Outcome Unit) → d ≡ landed 0 o → 0 ≡ endOf o
+        by (got a next) i = absurd (h (ap (λ (x : Cursor). x .refused) i))
+        by (refused m p) i = refl
+
+-- A byte string that may not be null. The code compares its length with the room behind it and with the largest length
+-- at once, by the least of the two.
+pub string-no-length : (form : Form) (s : List ℕ) (at : ℕ) → length s < at + lengthWidth form → 0 ≡ endOf (readString form false s at)
+unfolding readString
+string-no-length form s at h = rw (number-cut (lengthWidth form) s at h)
+
+module _ (form : Form) (s : List ℕ) (at most : ℕ) (half : 256 ^ lengthWidth form / 2 ≡ suc most) where
+  negative : (k next : ℕ) → 0 ≡ endOf (readBody form false s at (negsuc k) next)
+  unfolding readBody
+  negative zero next = refl
+  negative (suc k) next = refl
+
+  module _ (v : ℕ) (there : Value v ≡ numberAt (lengthWidth form) s at) (short : tooLong form v ≡ false) where
+    behind : readString form false s at ≡ readBody form false s at (signed (lengthWidth form) v) (at + lengthWidth form)
+    unfolding readString
+    behind =
+        let t = is-there (lengthWidth form) s at v there in
+        rw (number-there (lengthWidth form) s at (t .0), ← t .1)
+
+    too-large : most < v → 0 ≡ endOf (readString form false s at)
+    too-large h = rw (behind, above-half (lengthWidth form) v (omega (arith, half))) (negative _ _)
+
+    too-far : v ≤ most → length s < at + lengthWidth form + v → 0 ≡ endOf (readString form false s at)
+    too-far h l =
+        rw (behind, below-half (lengthWidth form) v (omega (arith, half)), body-cut form false s at (at + lengthWidth form) v short l)
+
+    pub string-over : (r : ℕ) → r ≡ cond (ltb (length s - at - lengthWidth form) most) (length s - at - lengthWidth form) most → r < v → 0 ≡ endOf (readString form false s at)
+    string-over r e l = by (ltb (length s - at - lengthWidth form) most) e (ltb most v) refl
+      where
+        by : (t : Bool) → r ≡ cond t (length s - at - lengthWidth form) most → (u : Bool) → ltb most v ≡ u → 0 ≡ endOf (readString form false s at)
+        by t i true j = too-large (ltb-true _ _ j)
+        by true i false j = too-far (ltb-false _ _ j) (omega arith)
+        by false i false j = let k : v ≤ most = ltb-false _ _ j in absurd (omega arith)
+
+    pub string-fits : (r : ℕ) → r ≡ cond (ltb (length s - at - lengthWidth form) most) (length s - at - lengthWidth form) most → v ≤ r → (v ≤ most) × (at + lengthWidth form + v ≤ length s)
+    string-fits r e l = by (ltb (length s - at - lengthWidth form) most) refl e
+      where
+        room : at + lengthWidth form ≤ length s
+        room = is-there (lengthWidth form) s at v there .0
+
+        by : (t : Bool) → ltb (length s - at - lengthWidth form) most ≡ t → r ≡ cond t (length s - at - lengthWidth form) most → (v ≤ most) × (at + lengthWidth form + v ≤ length s)
+        by true j i = let k : length s - at - lengthWidth form < most = ltb-true _ _ j in (omega arith, omega (arith, room))
+        by false j i = let k : most ≤ length s - at - lengthWidth form = ltb-false _ _ j in (omega arith, omega (arith, room))
+
+    module _ (h : (v ≤ most) × (at + lengthWidth form + v ≤ length s)) where
+      pub string-not-text : isText form (take v (drop (at + lengthWidth form) s)) ≡ false → 0 ≡ endOf (readString form false s at)
+      string-not-text t =
+          rw (behind, below-half (lengthWidth form) v (omega (arith, half, h .0)), body-not-text form false s at (at + lengthWidth form) v short (h .1) t)
+
+      pub string-end : isText form (take v (drop (at + lengthWidth form) s)) ≡ true → at + lengthWidth form + v ≡ endOf (readString form false s at)
+      string-end t =
+          rw (behind, below-half (lengthWidth form) v (omega (arith, half, h .0)), body-read form false s at (at + lengthWidth form) v short (h .1) t)
+
+-- The elements that have loops of their own.
+module _ (s : List ℕ) (at : ℕ) where
+  pub name-end : (r : ℕ) → r ≡ endOf (readString Text false s at) → r ≡ endOf (readRow (elementRow Name) s at)
+  unfolding readRow readField
+  name-end r h = by (readString Text false s at) h
+    where
+      by : (o : Outcome (Field Place)) → r ≡ endOf o → r ≡ endOf (then o (λ f next. got (f ∷ []) next))
+      by (got f next) e = e
+      by (refused n p) e = e
+
+  pub message-cut : length s < at + 8 → 0 ≡ endOf (readRow (elementRow Message) s at)
+  unfolding readRow readField readUnsigned
+  message-cut h = rw (number-cut 8 s at h)
+
+  pub message-end : (r : ℕ) → Bytes s → at + 8 ≤ length s → r ≡ endOf (readString Raw false s (at + 8)) → r ≡ endOf (readRow (elementRow Message) s at)
+  unfolding readRow readField
+  message-end r b h e = rw (whole-width 8 s at 0xffff_ffff_ffff_ffff refl b, number-there 8 s at h) (by (number (bigEndian 8 s at)) (readString Raw false s (at + 8)) e)
+    where
+      by : (g : Field Place) (o : Outcome (Field Place)) → r ≡ endOf o → r ≡ endOf (then (then o (λ f next. got (f ∷ []) next)) (λ fs behind. got (g ∷ fs) behind))
+      by g (got f next) e = e
+      by g (refused n p) e = e
+
+  -- Two fields of one kind are the field twice.
+  twice : (k : Kind) → endOf (readRow (k · k · end) s at) ≡ endOf (repeated (readField k) 2 s at)
+  unfolding readRow repeated
+  twice k = by (readField k s at)
+    where
+      one : (g : Field Place) (o : Outcome (Field Place)) → endOf (then (then o (λ f next. got (f ∷ []) next)) (λ fs behind. got (g ∷ fs) behind)) ≡ endOf (then o (λ f next. got (tt {0}) next))
+      one g (got f next) = refl
+      one g (refused n p) = refl
+
+      by : (o : Outcome (Field Place)) → endOf (then o (λ g after. then (then (readField k s after) (λ f next. got (f ∷ []) next)) (λ fs behind. got (g ∷ fs) behind))) ≡ endOf (then o (λ g after. then (readField k s after) (λ f next. got (tt {0}) next)))
+      by (got g after) = one g (readField k s after)
+      by (refused n p) = refl
+
+  once : (k : Kind) → endOf (repeated (readField k) 1 s at) ≡ endOf (readField k s at)
+  unfolding repeated
+  once k = by (readField k s at)
+    where
+      by : (o : Outcome (Field Place)) → endOf (then o (λ f next. got (tt {0}) next)) ≡ endOf o
+      by (got f next) = refl
+      by (refused n p) = refl
+
+module _ (s : List ℕ) (at key : ℕ) (h : key ≡ endOf (readString Text false s at)) where
+  pub property-stopped : key ≡ 0 → 0 ≡ endOf (readRow (elementRow Property) s at)
+  unfolding readField
+  property-stopped z = end-refused (readField T) s (λ p. bounded-field T s p) 1 at key h z ∙ sym (twice s at T)
+
+  pub property-end : (r : ℕ) → (key ≡ 0 → ⊥) → r ≡ endOf (readString Text false s key) → r ≡ endOf (readRow (elementRow Property) s at)
+  unfolding readField
+  property-end r z e = e ∙ sym (once s key T) ∙ sym (end-step (readField T) s 1 at key h z) ∙ sym (twice s at T)
