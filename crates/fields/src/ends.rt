@@ -82,7 +82,7 @@ pub fn elements_end(s: &[u8], at: usize, kind: Element, count: usize) -> usize
     }
 }
 
-fn messages_end(s: &[u8], start: usize, count: usize) -> usize
+pub fn messages_end(s: &[u8], start: usize, count: usize) -> usize
     ensures { λ r. ⌜ r ≡ endOf (repeated (readRow (elementRow Message)) count (now (s .entry)) start) ⌝ }
 {
     let mut at = start;
@@ -127,7 +127,7 @@ fn names_end(s: &[u8], start: usize, count: usize) -> usize
     at
 }
 
-fn properties_end(s: &[u8], start: usize, count: usize) -> usize
+pub fn properties_end(s: &[u8], start: usize, count: usize) -> usize
     ensures { λ r. ⌜ r ≡ endOf (repeated (readRow (elementRow Property)) count (now (s .entry)) start) ⌝ }
 {
     let mut at = start;

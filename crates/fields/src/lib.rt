@@ -17,6 +17,8 @@ pub use cursor::Cursor;
 pub use element::skip_element;
 pub use ends::bytes_end;
 pub use ends::elements_end;
+pub use ends::messages_end;
+pub use ends::properties_end;
 pub use ends::text_end;
 pub use list::ReadList;
 pub use list::list_field;
