@@ -2,10 +2,9 @@
 use mathlib.Core.Path.{_≡_, refl, _∙_, ap}
 use mathlib.Core.Bool.{Bool, true, false}
 use mathlib.Core.List.{List}
-use Prim.Native.Nat.{ℕ, zero, suc, _+_, _-_, _<_, _≤_}
+use Prim.Native.Nat.{ℕ, _+_, _-_, _<_, _≤_}
 use native.Mathlib.Omega.{arith}
 use lib.Dec.{leb, ltb}
-use lib.IntN.{negsuc}
 use lib.ListN.{length}
 use borrow.Author.Tests.{le-leb, lt-leb, lt-ltb, le-ltb, leb-true, leb-false, ltb-true, ltb-false}
 use Rattle.wire.specs.Signed.{signed}
@@ -20,6 +19,7 @@ use Rattle.fields.specs.Cursor.{cursor, from, landed, foundOr}
 use Rattle.fields.specs.Ends.{endOf}
 use Rattle.fields.specs.declared.cursor.Cursor.{Cursor}
 use Rattle.fields.proofs.NumberFields.{NumberAt, NumberThere, number-refused, number-found, then-refused, then-found}
+use Rattle.fields.proofs.PlainEnds.{negative-end}
 use Rattle.fields.proofs.StringFields.{body-cut, body-read}
 
 -- The answer of `read_entry`.
@@ -60,17 +60,12 @@ module _ (s : List ℕ) (c : Cursor) (v : ℕ) (d : Cursor) (a : NumberAt 4 s c 
 -- An entry ends where bytes B at its place would. The length is below 0 there just if the top bit is 1 here: then both are
 -- refused, with different numbers.
 module _ (s : List ℕ) (at next : ℕ) where
-  negative : (k : ℕ) → endOf (readBody Raw false s at (negsuc k) next) ≡ 0
-  unfolding readBody
-  negative zero = refl
-  negative (suc k) = refl
-
   same-end : (x : ℕ) → endOf (readBody Raw false s at (signed 4 x) next) ≡ endOf (sized s at x next)
   unfolding sized
   same-end x = by (leb 0x8000_0000 x) refl (ltb (length s) (next + x)) refl
     where
       by : (t : Bool) → leb 0x8000_0000 x ≡ t → (u : Bool) → ltb (length s) (next + x) ≡ u → endOf (readBody Raw false s at (signed 4 x) next) ≡ endOf (refuseIf t valueNotAdmitted at (refuseIf u fieldCut at (got (place next x) (next + x))))
-      by true i u j = rw (above-half 4 x (leb-true _ _ i)) (negative _)
+      by true i u j = rw (above-half 4 x (leb-true _ _ i)) (negative-end Raw s at _ next)
       by false i true j = rw (below-half 4 x (leb-false _ _ i), body-cut Raw false s at next x refl (ltb-true _ _ j))
       by false i false j = rw (below-half 4 x (leb-false _ _ i), body-read Raw false s at next x refl (ltb-false _ _ j) refl)
 

@@ -1,6 +1,6 @@
 -- Elements whose fields are numbers of whole widths are all read if their bytes are there: no value of them is refused.
 -- Assumes nothing.
-use mathlib.Core.Path.{_≡_, refl, _∙_, sym, ap}
+use mathlib.Core.Path.{_≡_, refl}
 use mathlib.Core.List.{List, [], _∷_}
 use Prim.Native.Nat.{ℕ, zero, suc, _+_, _-_, _*_, _/_, _^_, _<_, _≤_}
 use native.Mathlib.Nat.{div-lt-iff-lt-mul, div-mul-le-self, mul-le-mul-right}
@@ -15,12 +15,11 @@ use Rattle.protocol.specs.Kinds.{Row, end, _·_, unsigned, elementRow}
 use Rattle.protocol.specs.declared.kind.Element.{Element}
 use Rattle.protocol.specs.declared.kind.Element.the-variants.{Message, FilteredMessage, PublishingId, PublishingError, Property, Name, CommandVersions, Broker, StreamMetadata, Statistic, BrokerReference}
 use Rattle.protocol.specs.declared.place.Place.{Place}
-use Rattle.rules.specs.Outcome.{Outcome, got, refused, then, mapped, repeated}
-use Rattle.rules.specs.Reading.{readNumber, readField, readRow}
+use Rattle.rules.specs.Outcome.{got, repeated}
+use Rattle.rules.specs.Reading.{readField, readRow}
 use Rattle.rules.proofs.Numbers.{number-there, whole-width}
 use Rattle.fields.specs.Ends.{endOf}
 use Rattle.fields.specs.Fixed.{elementWidth, fixedEnd}
-use Rattle.fields.specs.declared.fixed.Fixed.{Fixed}
 use Rattle.fields.specs.declared.fixed.Fixed.the-variants.{End, Unknown}
 
 pub data NumbersOf : Row → ℕ → Type 0 where

@@ -1,24 +1,24 @@
 -- Where reading ends, as a plain place. A place other than 0 was read to. At 0 something was refused, or it began at 0 and
 -- took no bytes, and then any number of the like end at 0 too: so 0 ends every loop. Assumes nothing.
 use mathlib.Core.Path.{_≡_, refl, _∙_, sym, ap}
-use mathlib.Core.Bool.{Bool, true, false, not, cond}
+use mathlib.Core.Bool.{Bool, true, false, cond}
 use mathlib.Core.List.{List, [], _∷_}
-use Prim.Native.Nat.{ℕ, zero, suc, _+_, _-_, _*_, _/_, _^_, _<_, _≤_}
+use Prim.Native.Nat.{ℕ, zero, suc, _+_, _-_, _/_, _^_, _<_, _≤_}
 use native.Mathlib.Omega.{arith}
 use lib.Dec.{ltb}
-use lib.IntN.{ℤ, pos, negsuc}
+use lib.IntN.{negsuc}
 use lib.ListN.{length, take, drop}
-use borrow.Author.Tests.{ltb-true, ltb-false, lt-ltb, le-ltb}
+use borrow.Author.Tests.{ltb-true, ltb-false}
 use Rattle.wire.specs.Integers.{Bytes, bigEndian, numberAt}
 use Rattle.wire.specs.Signed.{signed}
-use Rattle.wire.specs.declared.integers.Number.the-variants.{Value, Cut}
+use Rattle.wire.specs.declared.integers.Number.the-variants.{Value}
 use Rattle.wire.proofs.TwosComplement.{below-half, above-half}
-use Rattle.wire.proofs.Widths.{is-there, is-cut}
+use Rattle.wire.proofs.Widths.{is-there}
 use Rattle.protocol.specs.Fields.{Field, number}
-use Rattle.protocol.specs.Kinds.{Kind, T, elementRow, lengthWidth, Row, end, _·_}
+use Rattle.protocol.specs.Kinds.{Kind, T, elementRow, lengthWidth, end, _·_}
 use Rattle.protocol.specs.declared.kind.Element.the-variants.{Message, Name, Property}
 use Rattle.protocol.specs.declared.kind.Form.{Form}
-use Rattle.protocol.specs.declared.kind.Form.the-variants.{Text, Reference, Bytes as Raw}
+use Rattle.protocol.specs.declared.kind.Form.the-variants.{Text, Bytes as Raw}
 use Rattle.protocol.specs.declared.place.Place.{Place}
 use Rattle.rules.specs.Outcome.{Outcome, got, refused, then, repeated}
 use Rattle.rules.specs.Reading.{readUnsigned, readString, readBody, readField, readRow, tooLong, isText}
@@ -108,12 +108,12 @@ pub string-no-length : (form : Form) (s : List ℕ) (at : ℕ) → length s < at
 unfolding readString
 string-no-length form s at h = rw (number-cut (lengthWidth form) s at h)
 
-module _ (form : Form) (s : List ℕ) (at most : ℕ) (half : 256 ^ lengthWidth form / 2 ≡ suc most) where
-  negative : (k next : ℕ) → 0 ≡ endOf (readBody form false s at (negsuc k) next)
-  unfolding readBody
-  negative zero next = refl
-  negative (suc k) next = refl
+pub negative-end : (form : Form) (s : List ℕ) (at k next : ℕ) → endOf (readBody form false s at (negsuc k) next) ≡ 0
+unfolding readBody
+negative-end form s at zero next = refl
+negative-end form s at (suc k) next = refl
 
+module _ (form : Form) (s : List ℕ) (at most : ℕ) (half : 256 ^ lengthWidth form / 2 ≡ suc most) where
   module _ (v : ℕ) (there : Value v ≡ numberAt (lengthWidth form) s at) (short : tooLong form v ≡ false) where
     behind : readString form false s at ≡ readBody form false s at (signed (lengthWidth form) v) (at + lengthWidth form)
     unfolding readString
@@ -122,7 +122,7 @@ module _ (form : Form) (s : List ℕ) (at most : ℕ) (half : 256 ^ lengthWidth 
         rw (number-there (lengthWidth form) s at (t .0), ← t .1)
 
     too-large : most < v → 0 ≡ endOf (readString form false s at)
-    too-large h = rw (behind, above-half (lengthWidth form) v (omega (arith, half))) (negative _ _)
+    too-large h = rw (behind, above-half (lengthWidth form) v (omega (arith, half))) (sym (negative-end form s at _ _))
 
     too-far : v ≤ most → length s < at + lengthWidth form + v → 0 ≡ endOf (readString form false s at)
     too-far h l =
