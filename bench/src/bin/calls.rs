@@ -1,4 +1,5 @@
-//! Times each call of the library, through its C boundary, beside the same call of the reference.
+//! Times each call of the library, through its C boundary, beside the same call of the reference. Each crosses one call that
+//! is not inlined: the library's at the boundary, the reference's at the function here.
 
 use std::hint::black_box;
 
@@ -6,7 +7,7 @@ use bench::times;
 use boundary::{Archive, Boundary, ElementSlots, Frame, Ledger, List};
 use reference::Refusal;
 
-#[inline(never)]
+#[inline(always)]
 fn library_read(bytes: &[u8], frame: &mut Frame) -> u64 {
     Archive.read(bytes, 0, frame)
 }
@@ -16,7 +17,7 @@ fn reference_read(bytes: &[u8]) -> Result<Frame, Refusal> {
     reference::read(bytes, 0)
 }
 
-#[inline(never)]
+#[inline(always)]
 fn library_write(frame: &Frame, source: &[u8], out: &mut [u8]) -> u64 {
     Archive.write(frame, source, 0, out)
 }
@@ -26,7 +27,7 @@ fn reference_write(frame: &Frame, source: &[u8], out: &mut [u8]) -> Result<usize
     reference::write(frame, source, 0, out)
 }
 
-#[inline(never)]
+#[inline(always)]
 fn library_element(source: &[u8], list: List, index: u64, element: &mut ElementSlots) -> u64 {
     Archive.element(1, source, list, index, element)
 }
@@ -36,7 +37,7 @@ fn reference_element(source: &[u8], list: List, index: u64) -> Result<ElementSlo
     reference::element(1, source, list.count, list.place, list.length, index)
 }
 
-#[inline(never)]
+#[inline(always)]
 fn library_open(ledger: &mut Ledger) -> u64 {
     Archive.credit_open(ledger, 7, 10)
 }
@@ -46,7 +47,7 @@ fn reference_open(ledger: &mut Ledger) -> Result<(), Refusal> {
     reference::credit::open(ledger, 7, 10)
 }
 
-#[inline(never)]
+#[inline(always)]
 fn library_close(ledger: &mut Ledger) -> u64 {
     Archive.credit_close(ledger, 7)
 }
@@ -56,7 +57,7 @@ fn reference_close(ledger: &mut Ledger) -> Result<(), Refusal> {
     reference::credit::close(ledger, 7)
 }
 
-#[inline(never)]
+#[inline(always)]
 fn library_grant(ledger: &mut Ledger) -> u64 {
     Archive.credit_grant(ledger, 7, 1)
 }
@@ -66,7 +67,7 @@ fn reference_grant(ledger: &mut Ledger) -> Result<(), Refusal> {
     reference::credit::grant(ledger, 7, 1)
 }
 
-#[inline(never)]
+#[inline(always)]
 fn library_receive(ledger: &mut Ledger, bytes: &[u8], frame: &mut Frame) -> u64 {
     Archive.credit_receive(ledger, bytes, 0, frame)
 }

@@ -8,7 +8,7 @@ use native.Mathlib.Numerals.{add-one}
 use native.Mathlib.Omega.{arith}
 use lib.ListN.{length, getD, take, drop, set, length-append, length-drop, take-append-drop, List·getD-append}
 use borrow.Author.Tests.{le-leb, lt-leb}
-use lib.Seq.{set-split, length-take-le, take-suc, drop-append-add, drop-drop, set-at, take-at, getD-take, getD-drop, getD-append-add}
+use lib.Seq.{set-split, length-take-le, take-suc, drop-append-add, drop-drop, set-at, take-at, take-add, getD-take, getD-drop, getD-append-add}
 use Rattle.wire.specs.Integers.{digits}
 use Rattle.wire.specs.Buffer.{splice, put, copied, holds, Written}
 use Rattle.wire.proofs.Widths.{integers, digits-front}
@@ -87,7 +87,7 @@ digits-end o s at n i v h e =
     let g : n - i ≡ n = omega arith in
     rw (f, g) at e
 
--- The loop that copies: a turn, its end. i bytes are there, from at on.
+-- The loop that copies byte by byte: a turn, its end. i bytes are there, from at on.
 pub copy-turn : (o s src : List ℕ) (at from i len : ℕ) → i < len → at + len ≤ length s → from + len ≤ length src → o ≡ splice s at (take i (drop from src)) → set o (at + i) (getD src (from + i) 0) ≡ splice s at (take (i + 1) (drop from src))
 copy-turn o s src at from i len h l m e =
     let j : i < length (drop from src) = simp length-drop (omega arith) in
@@ -98,6 +98,42 @@ copy-turn o s src at from i len h l m e =
 
 pub copy-end : (o s src : List ℕ) (at from i len : ℕ) → i ≤ len → len ≤ i → o ≡ splice s at (take i (drop from src)) → o ≡ splice s at (take len (drop from src))
 copy-end o s src at from i len h l e = let f : i ≡ len = omega arith in rw f at e
+
+-- A copy in two steps: of i bytes first, and then of the n behind them.
+copy-copy : (s src : List ℕ) (at from i n : ℕ) → at + i + n ≤ length s → from + i + n ≤ length src → splice (splice s at (take i (drop from src))) (at + i) (take n (drop (from + i) src)) ≡ splice s at (take (i + n) (drop from src))
+copy-copy s src at from i n l m =
+    let a : length (take i (drop from src)) ≡ i = length-take-le i (drop from src) (simp length-drop (omega arith)) in
+    let b : length (take n (drop (from + i) src)) ≡ n = length-take-le n (drop (from + i) src) (simp length-drop (omega arith)) in
+    let k : at + length (take i (drop from src)) + length (take n (drop (from + i) src)) ≤ length s = rw (a, b) l in
+    rw (take-add i n (drop from src), drop-drop i from src)
+    (rw a at (splice-splice s (take i (drop from src)) (take n (drop (from + i) src)) at k))
+
+-- The loops that copy in blocks: what s becomes once the bytes from the i-th on are copied too; a turn, which copies
+-- the n next; and the end.
+abbrev pub remaining : List ℕ → ℕ → List ℕ → ℕ → ℕ → ℕ → List ℕ
+remaining s at src from len i = splice s (at + i) (take (len - i) (drop (from + i) src))
+
+pub remaining-turn : (s o t src : List ℕ) (at from len i n : ℕ) → i + n ≤ len → at + len ≤ length s → from + len ≤ length src → o ≡ splice s (at + i) (take n (drop (from + i) src)) → remaining s at src from len i ≡ t → remaining o at src from len (i + n) ≡ t
+remaining-turn s o t src at from len i n h l m e f =
+    let a : at + (i + n) ≡ at + i + n = omega arith in
+    let b : from + (i + n) ≡ from + i + n = omega arith in
+    let k : n + (len - (i + n)) ≡ len - i = omega arith in
+    rw (e, a, b) (rw k at (copy-copy s src (at + i) (from + i) n (len - (i + n)) (omega arith) (omega arith))) ∙ f
+
+pub remaining-end : (o s src : List ℕ) (at from len : ℕ) → o ≡ remaining s at src from len 0 → o ≡ splice s at (take len (drop from src))
+remaining-end o s src at from len e =
+    let a : at + 0 ≡ at = omega arith in
+    let b : from + 0 ≡ from = omega arith in
+    let k : len - 0 ≡ len = omega arith in
+    rw (a, b, k) at e
+
+-- A copy by way of a block b, whatever z the block held before.
+pub by-block : (b o s z src : List ℕ) (at from n : ℕ) → from + n ≤ length src → b ≡ splice z 0 (take n (drop from src)) → o ≡ splice s at (take n (drop 0 b)) → o ≡ splice s at (take n (drop from src))
+unfolding splice
+by-block b o s z src at from n m e f =
+    let k : length (take n (drop from src)) ≡ n = length-take-le n (drop from src) (simp length-drop (omega arith)) in
+    let g : take n (drop 0 b) ≡ take n (drop from src) = rw e (take-at (take n (drop from src)) (drop (0 + length (take n (drop from src))) z) n k) in
+    f ∙ ap (λ (x : List ℕ). splice s at x) g
 
 -- What a buffer holds, byte for byte.
 module _ (s : List ℕ) (at : ℕ) (b : List ℕ) (room : at + length b ≤ length s) where
