@@ -1,5 +1,5 @@
 -- A chunk of type 0 whose records are its entries, whose data ends with s and whose entries do is read. Assumes nothing.
-use mathlib.Core.Path.{_≡_, refl, _∙_, sym, ap}
+use mathlib.Core.Path.{_≡_, refl}
 use mathlib.Core.Bool.{Bool, true, false, not, true≢false}
 use mathlib.Core.List.{List, [], _∷_}
 use Prim.Native.Nat.{ℕ, _+_, _≤_}
@@ -11,8 +11,6 @@ use Rattle.wire.specs.Integers.{Bytes, bigEndian}
 use Rattle.wire.specs.Signed.{signed, unsigned}
 use Rattle.wire.proofs.TwosComplement.{twos-complement}
 use Rattle.wire.proofs.Widths.{integers}
-use Rattle.protocol.specs.Fields.{place}
-use Rattle.protocol.specs.Fields as F
 use Rattle.rules.specs.Outcome.{Outcome, got, refused, then, refuseIf, repeated}
 use Rattle.rules.specs.Reading.{headerAt, readEntry, readEntries, readData, readChunk}
 use Rattle.fields.specs.Ends.{endOf}

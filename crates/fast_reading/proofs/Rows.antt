@@ -6,20 +6,20 @@ use mathlib.Core.List.{List, [], _∷_, map}
 use mathlib.Core.Option.{some}
 use Prim.Native.Nat.{ℕ, zero, suc, _+_, _-_, _^_, _<_, _≤_}
 use native.Mathlib.Omega.{arith}
-use lib.Dec.{ltb, lit<}
+use lib.Dec.{ltb}
 use lib.IntN.{ℤ, pos, negsuc}
 use lib.ListN.{length, take, drop}
-use borrow.Author.Tests.{eq-eqb, le-ltb, lt-ltb, ltb-false}
+use borrow.Author.Tests.{le-ltb, ltb-false}
 use Rattle.wire.specs.Integers.{Bytes, bigEndian}
 use Rattle.wire.specs.Signed.{signed}
 use Rattle.wire.specs.Utf8.{utf8}
 use Rattle.wire.proofs.TwosComplement.{below-half}
+use Rattle.wire.proofs.Widths.{integers}
 use Rattle.protocol.specs.Fields.{Field, number, elements, place, overPlaces, further}
 use Rattle.protocol.specs.Fields as F
 use Rattle.protocol.specs.Kinds.{Kind, Row, end, _·_, unsigned, list, spec, T, R?}
 use Rattle.protocol.specs.Table.{rowOf}
 use Rattle.protocol.specs.Refusals.{fieldCut, notUtf8}
-use Rattle.protocol.specs.declared.kind.Form.{Form}
 use Rattle.protocol.specs.declared.kind.Form.the-variants.{Text, Reference}
 use Rattle.protocol.specs.declared.offset.OffsetSpecification.the-variants.{Offset}
 use Rattle.protocol.specs.declared.place.Place.{Place}
@@ -53,6 +53,9 @@ reads {s} {row} {last} {fs} k v old new i g h j =
     (j ∙ ap (λ (r : Row). padded 24 (k ∷ v ∷ flatRow r (map (overPlaces (further 8)) fs))) (sym i))
 
 -- ---- Numbers
+
+pub below : (n : ℕ) (s : List ℕ) (at x : ℕ) → Bytes s → x ≡ bigEndian n s at → x < 256 ^ n
+below n s at x b i = rw i (integers n .range s at b)
 
 module _ (s : List ℕ) (b : Bytes s) where
   pub unsigned-read : (n most at next : ℕ) → 256 ^ n ≡ suc most → at + n ≡ next → next ≤ length s → readField (unsigned n most) s at ≡ got (number (bigEndian n s at)) next

@@ -1,7 +1,8 @@
+-- A number, then a text that ends with the content.
 use mathlib.Core.Bool.{true, false}
-use mathlib.Core.Path.{_≡_, refl, _∙_, sym, ap}
+use mathlib.Core.Path.{_≡_, refl}
 use mathlib.Core.List.{List, [], _∷_}
-use Prim.Native.Nat.{ℕ, _+_, _-_, _*_, _≤_}
+use Prim.Native.Nat.{ℕ, _-_, _≤_}
 use native.Mathlib.Omega.{arith}
 use lib.ListN.{length}
 use denote.Ref.{now}
@@ -16,10 +17,6 @@ use Rattle.fast_reading.proofs.Rows.{reads, done, link, unsigned-read, 
 use borrow.Author.Needs.{needs}
 use Rattle.fast_reading.proofs.reading.open.Statement.{statement}
 use Rattle.fast_reading.proofs.reading.open.Tie as tie
-use Rattle.fast_reading.proofs.reading.open.Reads as reads
-use Rattle.fast_reading.proofs.reading.open.Lts as lts
-use Rattle.fast_reading.proofs.reading.number.Reads as number-reads
-use Rattle.fields.proofs.text_end.Reads as text-end-reads
 
 row : (s old : List ℕ) (a e : ℕ) → Bytes s → 6 ≤ length s → a ≡ bigEndian 4 s 0 → e ≡ endOf (readString Text false s 4) → e ≡ length s → ReadsAs (readLayout 0x0015 1 s) old true (padded 24 (0x0015 ∷ 1 ∷ a ∷ 14 ∷ (e - 6) ∷ []))
 unfolding table rowIn
@@ -30,31 +27,14 @@ row s old a e b l i j k =
     k
     (rw i)
 
--- src/reading.rt:100:9
-returns : tie.Need-returns
-returns c = search needs
-
--- src/reading.rt:102:9
-number-requires : tie.Need-number-requires
-number-requires c κs = search needs
-
--- src/reading.rt:103:9
-text-end-requires : tie.Need-text-end-requires
-text-end-requires c κs = search needs
-
--- src/reading.rt:105:9
-returns-2 : tie.Need-returns-2
-returns-2 c = search needs
-
--- src/reading.rt:107:15
-sub-len : tie.Need-sub-len
-sub-len c = search needs
-
--- src/reading.rt:96:1
-returns-3 : tie.Need-returns-3
-unfolding Bytes padded
-returns-3 c = row (now (c .before .before .before .before .before .before .args .s)) (now (c .before .before .before .before .before .before .args .slots)) _ _ (λ i. omega (arith, c .before .before .before .before .before .shared-slice-known .given i)) (c .before .before .before .before .if1 .left) (c .before .before .before .number .ensures) (c .before .before .text-end .ensures) (c .before .if2 .left)
-
 pub open-spec : {M : Type 1} → statement M
+unfolding Bytes padded
 open-spec =
-    tie.close (tie.spec returns number-requires text-end-requires returns-2 sub-len returns-3)
+    tie.close
+    (tie.spec
+    (λ c. search needs)
+    (λ c κs. search needs)
+    (λ c κs. search needs)
+    (λ c. search needs)
+    (λ c. search needs)
+    (λ c. row (now (c .before .before .before .before .before .before .args .s)) (now (c .before .before .before .before .before .before .args .slots)) _ _ (λ i. omega (arith, c .before .before .before .before .before .shared-slice-known .given i)) (c .before .before .before .before .if1 .left) (c .before .before .before .number .ensures) (c .before .before .text-end .ensures) (c .before .if2 .left)))

@@ -1,5 +1,6 @@
-use mathlib.Core.Bool.{true, false}
-use mathlib.Core.Path.{_≡_, refl, _∙_, sym, ap}
+-- A number, then numbers of one width, which are all read where their bytes are there.
+use mathlib.Core.Bool.{true}
+use mathlib.Core.Path.{_≡_, refl, sym, ap}
 use mathlib.Core.List.{List, [], _∷_}
 use Prim.Native.Nat.{ℕ, _+_, _-_, _*_, _≤_}
 use native.Mathlib.Omega.{arith}
@@ -11,18 +12,14 @@ use Rattle.rules.specs.Reading.{readLayout, readRow}
 use Rattle.flat.specs.Flat.{padded}
 use Rattle.fast_reading.specs.Answer.{ReadsAs}
 use Rattle.protocol.specs.Kinds.{elementRow}
-use Rattle.rules.specs.Outcome.{repeated}
+use Rattle.rules.specs.Outcome.{repeated, Outcome}
 use Rattle.fields.specs.Ends.{endOf}
 use Rattle.protocol.specs.declared.kind.Element.the-variants.{PublishingId}
-use Rattle.rules.specs.Outcome.{Outcome}
 use Rattle.fields.proofs.FixedWidth.{of-width, repeated-read}
 use Rattle.fast_reading.proofs.Rows.{reads, done, link, unsigned-read, list-read}
 use borrow.Author.Needs.{needs}
 use Rattle.fast_reading.proofs.reading.publish_confirm.Statement.{statement}
 use Rattle.fast_reading.proofs.reading.publish_confirm.Tie as tie
-use Rattle.fast_reading.proofs.reading.publish_confirm.Reads as reads
-use Rattle.fast_reading.proofs.reading.publish_confirm.Lts as lts
-use Rattle.fast_reading.proofs.reading.number.Reads as number-reads
 
 row : (s old : List ℕ) (a n : ℕ) → Bytes s → 5 ≤ length s → a ≡ bigEndian 1 s 0 → n ≡ bigEndian 4 s 1 → n ≤ 0x7fff_ffff → length s - 5 ≡ n * 8 → ReadsAs (readLayout 0x0003 1 s) old true (padded 24 (0x0003 ∷ 1 ∷ a ∷ n ∷ 13 ∷ (n * 8) ∷ []))
 unfolding table rowIn
@@ -37,53 +34,17 @@ row s old a n b l i j h f =
     ends : 5 + n * 8 ≡ endOf (repeated (readRow (elementRow PublishingId)) n s 5)
     ends = sym (ap (λ (o : Outcome Unit). endOf o) (repeated-read s b (of-width PublishingId (λ z. omega arith)) n 5 (omega arith)))
 
--- src/reading.rt:170:9
-returns : tie.Need-returns
-returns c = search needs
-
--- src/reading.rt:172:9
-number-requires : tie.Need-number-requires
-number-requires c κs = search needs
-
--- src/reading.rt:173:9
-number-requires-2 : tie.Need-number-requires-2
-number-requires-2 c κs = search needs
-
--- src/reading.rt:175:9
-returns-2 : tie.Need-returns-2
-returns-2 c = search needs
-
--- src/reading.rt:177:8
-sub-if3 : tie.Need-sub-if3
-sub-if3 c = search needs
-
--- src/reading.rt:177:23
-mul-if3 : tie.Need-mul-if3
-mul-if3 c = search needs
-
--- src/reading.rt:178:9
-returns-3 : tie.Need-returns-3
-returns-3 c = search needs
-
--- src/reading.rt:181:45
-mul-t11 : tie.Need-mul-t11
-mul-t11 c = search needs
-
--- src/reading.rt:166:1
-returns-4 : tie.Need-returns-4
-unfolding Bytes padded
-returns-4 c = row (now (c .before .before .before .before .before .before .before .args .s)) (now (c .before .before .before .before .before .before .before .args .slots)) _ _ (λ i. omega (arith, c .before .before .before .before .before .before .shared-slice-known .given i)) (c .before .before .before .before .before .if1 .left) (c .before .before .before .before .number .ensures) (c .before .before .before .number2 .ensures) (c .before .before .if2 .left) (c .before .if3 .left)
-
 pub publish-confirm-spec : {M : Type 1} → statement M
+unfolding Bytes padded
 publish-confirm-spec =
     tie.close
     (tie.spec
-    returns
-    number-requires
-    number-requires-2
-    returns-2
-    sub-if3
-    mul-if3
-    returns-3
-    mul-t11
-    returns-4)
+    (λ c. search needs)
+    (λ c κs. search needs)
+    (λ c κs. search needs)
+    (λ c. search needs)
+    (λ c. search needs)
+    (λ c. search needs)
+    (λ c. search needs)
+    (λ c. search needs)
+    (λ c. row (now (c .before .before .before .before .before .before .before .args .s)) (now (c .before .before .before .before .before .before .before .args .slots)) _ _ (λ i. omega (arith, c .before .before .before .before .before .before .shared-slice-known .given i)) (c .before .before .before .before .before .if1 .left) (c .before .before .before .before .number .ensures) (c .before .before .before .number2 .ensures) (c .before .before .if2 .left) (c .before .if3 .left)))
