@@ -1,0 +1,3 @@
+-- Reading the most frequent frames straight into their slots.
+pub mod Answer
+pub mod Chunk
