@@ -14,7 +14,6 @@ use chunks::entries_end;
 use fields::messages_end;
 use fields::properties_end;
 use fields::text_end;
-use wire::Number;
 use wire::Width;
 
 // The frame at the start of the bytes, under a frame limit; 0 is no limit.
@@ -498,15 +497,39 @@ fn is_open_chunk(s: &[u8], at: usize) -> bool
     entries_end(s, data, entries as usize) == s.len()
 }
 
-// A number of a width that is there.
+// A number of a width that is there. It is written out, and not a loop, so that it is inlined and made one load.
 fn number(s: &[u8], at: usize, width: Width) -> u64
     requires { ⌜ at + widthOf width ≤ length (now s) ⌝ }
     ensures { λ r. ⌜ r ≡ bigEndian (widthOf width) (now (s .entry)) at ⌝ }
 {
-    match wire::number_at(s, at, width) {
-        Number::Value(v) => v,
-        Number::Cut => 0,
+    match width {
+        Width::One => one(s, at) as u64,
+        Width::Two => two(s, at) as u64,
+        Width::Three => two(s, at) as u64 * 0x100 + one(s, at + 2) as u64,
+        Width::Four => four(s, at) as u64,
+        Width::Eight => four(s, at) as u64 * 0x1_0000_0000 + four(s, at + 4) as u64,
     }
+}
+
+fn four(s: &[u8], at: usize) -> u32
+    requires { ⌜ at + 4 ≤ length (now s) ⌝ }
+    ensures { λ r. ⌜ r ≡ bigEndian 4 (now (s .entry)) at ⌝ }
+{
+    two(s, at) * 0x1_0000 + two(s, at + 2)
+}
+
+fn two(s: &[u8], at: usize) -> u32
+    requires { ⌜ at + 2 ≤ length (now s) ⌝ }
+    ensures { λ r. ⌜ (r ≡ bigEndian 2 (now (s .entry)) at) × (r < 0x1_0000) ⌝ }
+{
+    one(s, at) * 0x100 + one(s, at + 1)
+}
+
+fn one(s: &[u8], at: usize) -> u32
+    requires { ⌜ at + 1 ≤ length (now s) ⌝ }
+    ensures { λ r. ⌜ (r ≡ bigEndian 1 (now (s .entry)) at) × (r < 0x100) ⌝ }
+{
+    s[at] as u32
 }
 
 // Eight bytes that are there, as two halves, which the compiler makes one load of.

@@ -1,7 +1,7 @@
 -- Each answer of a layer below, as the number and the slots that the host gets. A frame's Size has four bytes, so what a
 -- frame needs is bounded. Assumes nothing.
-use mathlib.Core.Path.{_≡_, refl, sym, subst}
-use mathlib.Core.Bool.{Bool}
+use mathlib.Core.Path.{_≡_, refl, sym, ap, subst, _∙_}
+use mathlib.Core.Bool.{Bool, true, false, true≢false, false≢true}
 use mathlib.Core.List.{List}
 use mathlib.Core.Option.{Option, none, some}
 use Prim.Native.Nat.{ℕ, _+_, _≤_, _<_}
@@ -23,7 +23,11 @@ use Rattle.ledger.specs.Calls.{take, answerBy}
 use Rattle.ledger.specs.Calls as calls
 use Rattle.ledger.specs.Rules.{refusal, entryAt, answerTo}
 use Rattle.credit.specs.Calls.{received, nothing, frame, number, short, unread, Reply, readAnswer, deliverId}
-use Rattle.credit.specs.Step.{answer, actOnFrame, actOnReading}
+use Rattle.credit.specs.Step.{answer, after, actOnFrame, actOnReading}
+use Rattle.credit.specs.Subscription.{addressed, affords, spent}
+use Rattle.credit.proofs.Addressed.{afforded}
+use Rattle.flat.specs.Flat.{flatFrame}
+use Rattle.fast_reading.specs.Answer.{ReadsAs}
 use Rattle.krevilosh.specs.Answer.{readNumber, readSlots, NeededFits, orZero, creditNumber, creditSlots, publisherNumber}
 
 -- ---- The bytes needed
@@ -52,6 +56,44 @@ needed-fits s limit b =
     choice (λ r. NeededFits r) (ltb (bigEndian 4 s 0) 4) _ _ (λ _. tt) (λ _.
     choice (λ r. NeededFits r) (ltb (length s) (bigEndian 4 s 0 + 4)) _ _ (λ _. longest (bigEndian 4 s 0) (integers 4 .range s 0 b)) (λ _.
     decided (decide (bigEndian 2 s 4) (bigEndian 2 s 6)) _))))
+
+-- ---- The answer of the fast reader
+
+pub read-fast : (r : Reading) (old new : List ℕ) (t : Bool) → ReadsAs r old t new → t ≡ true → (0 ≡ readNumber r) × (new ≡ readSlots old r)
+read-fast (rules.frame f) old new true h e = (refl, h)
+read-fast (rules.short needed) old new true h e = absurd h
+read-fast (rules.refusal n place) old new true h e = absurd h
+read-fast r old new false h e = absurd (false≢true e)
+
+pub left-alone : (r : Reading) (old new : List ℕ) (t : Bool) → ReadsAs r old t new → t ≡ false → new ≡ old
+left-alone r old new true h e = absurd (true≢false e)
+left-alone r old new false h e = h
+
+-- What is put into slots that were left alone.
+pub as-read : (old new x : List ℕ) (r r' : Reading) → new ≡ old → r ≡ r' → x ≡ readSlots new r → x ≡ readSlots old r'
+as-read old new x r r' i j e = rw (← i, ← j) e
+
+-- A frame that the fast reader has read, and that the ledger has a credit for.
+pub received-fast : (l l' s : List ℕ) (limit : ℕ) (o : Option ℕ) (old new : List ℕ) (t u : Bool)
+    → o ≡ addressed s → t ≡ affords l o → t ≡ true → ReadsAs (readFrame s limit) old u new → u ≡ true → l' ≡ spent l o
+    → (0 ≡ creditNumber (answer l (received s limit))) × ((l' ≡ after l (received s limit)) × (new ≡ creditSlots old (answer l (received s limit))))
+received-fast l l' s limit o old new t u a p q h e w = by (readFrame s limit) refl h
+  where
+    told : (f : Fields Place) → readFrame s limit ≡ rules.frame f → new ≡ flatFrame f
+        → (0 ≡ creditNumber (answer l (received s limit))) × ((l' ≡ after l (received s limit)) × (new ≡ creditSlots old (answer l (received s limit))))
+    told f i g =
+        let k = afforded l s limit f i (ap (affords l) (sym a) ∙ sym p ∙ q) in
+        (sym (ap creditNumber (k .0)), (w ∙ ap (spent l) a ∙ sym (k .1), g ∙ sym (ap (creditSlots old) (k .0))))
+
+    by : (r : Reading) → readFrame s limit ≡ r → ReadsAs r old u new
+        → (0 ≡ creditNumber (answer l (received s limit))) × ((l' ≡ after l (received s limit)) × (new ≡ creditSlots old (answer l (received s limit))))
+    by (rules.frame f) i g = told f i (subst (λ (x : Bool). ReadsAs (rules.frame f) old x new) e g)
+    by (rules.short needed) i g = absurd (subst (λ (x : Bool). ReadsAs (rules.short needed) old x new) e g)
+    by (rules.refusal n place) i g = absurd (subst (λ (x : Bool). ReadsAs (rules.refusal n place) old x new) e g)
+
+-- What is answered with slots that were left alone.
+pub as-received : (old new x : List ℕ) (y : Reply) → new ≡ old → x ≡ creditSlots new y → x ≡ creditSlots old y
+as-received old new x y i e = rw (← i) e
 
 -- ---- The answers of the ledgers
 

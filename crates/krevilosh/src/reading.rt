@@ -11,18 +11,22 @@ use flat::frame_slots;
 use layouts::Reading;
 use protocol::refusal;
 
-// The frame at the start of the bytes, under a frame limit, into the frame's slots.
+// The frame at the start of the bytes, under a frame limit, into the frame's slots. What the fast reader leaves, the
+// reader that knows every layout and every refusal reads.
 #[no_mangle]
 pub extern "C" fn krevilosh_read(bytes: &[u8], limit: u32, frame: &mut [u64; 24]) -> u64
     ensures { λ r. ⌜ r ≡ readNumber (readFrame (now (bytes .entry)) limit) ⌝ }
     ensures { λ _. ⌜ now (frame .exit) ≡ readSlots (now (frame .entry)) (readFrame (now (bytes .entry)) limit) ⌝ }
 {
+    if fast_reading::read(bytes, limit, frame) {
+        return 0;
+    }
     let reading = frames::read(bytes, limit);
     put_reading(frame, reading)
 }
 
 // Reads a frame, and takes one credit from its subscription if it is a Deliver. The slots are touched only if the frame is
-// handed over.
+// handed over, so the fast reader is asked only where the ledger will not refuse.
 #[no_mangle]
 pub extern "C" fn krevilosh_credit_receive(
     credits: &mut [u32; 257],
@@ -30,6 +34,23 @@ pub extern "C" fn krevilosh_credit_receive(
     limit: u32,
     frame: &mut [u64; 24],
 ) -> u64
+    ensures { λ r. ⌜ r ≡ creditNumber (answer (now (credits .entry)) (received (now (bytes .entry)) limit)) ⌝ }
+    ensures { λ _. ⌜ now (credits .exit) ≡ after (now (credits .entry)) (received (now (bytes .entry)) limit) ⌝ }
+    ensures { λ _. ⌜ now (frame .exit) ≡ creditSlots (now (frame .entry)) (answer (now (credits .entry)) (received (now (bytes .entry)) limit)) ⌝ }
+{
+    let subscription = credit::subscription_of(bytes);
+    if credit::affords(credits, subscription) {
+        if fast_reading::read(bytes, limit, frame) {
+            credit::spend(credits, subscription);
+            return 0;
+        }
+        return receive_any(credits, bytes, limit, frame);
+    }
+    receive_any(credits, bytes, limit, frame)
+}
+
+// The same by the reader that knows every layout and every refusal.
+fn receive_any(credits: &mut [u32; 257], bytes: &[u8], limit: u32, frame: &mut [u64; 24]) -> u64
     ensures { λ r. ⌜ r ≡ creditNumber (answer (now (credits .entry)) (received (now (bytes .entry)) limit)) ⌝ }
     ensures { λ _. ⌜ now (credits .exit) ≡ after (now (credits .entry)) (received (now (bytes .entry)) limit) ⌝ }
     ensures { λ _. ⌜ now (frame .exit) ≡ creditSlots (now (frame .entry)) (answer (now (credits .entry)) (received (now (bytes .entry)) limit)) ⌝ }

@@ -3,9 +3,11 @@ ghost use mathlib.Core.Path.{_≡_};
 ghost use Rattle.flat.specs.Unflat.{writeFlat};
 ghost use Rattle.krevilosh.specs.Answer.{writtenNumber};
 use crate::packed;
+use fast_writing::Fast;
 use frames::Written;
 
-// The flat frame, whose places are in the source, to the start of out, under a frame limit.
+// The flat frame, whose places are in the source, to the start of out, under a frame limit. What the fast writer leaves, the
+// writer that knows every layout and every refusal writes.
 #[no_mangle]
 pub extern "C" fn krevilosh_write(
     frame: &[u64; 24],
@@ -13,6 +15,17 @@ pub extern "C" fn krevilosh_write(
     limit: u32,
     out: &mut [u8],
 ) -> u64
+    ensures { λ r. ⌜ r ≡ writtenNumber (writeFlat (now (frame .entry)) (now (source .entry)) limit (now (out .entry)) .answer) ⌝ }
+    ensures { λ _. ⌜ now (out .exit) ≡ writeFlat (now (frame .entry)) (now (source .entry)) limit (now (out .entry)) .out ⌝ }
+{
+    match fast_writing::write(frame, source, limit, out) {
+        Fast::Length(length) => packed(0, length),
+        Fast::Unwritten => write_any(frame, source, limit, out),
+    }
+}
+
+// A frame of any layout.
+fn write_any(frame: &[u64; 24], source: &[u8], limit: u32, out: &mut [u8]) -> u64
     ensures { λ r. ⌜ r ≡ writtenNumber (writeFlat (now (frame .entry)) (now (source .entry)) limit (now (out .entry)) .answer) ⌝ }
     ensures { λ _. ⌜ now (out .exit) ≡ writeFlat (now (frame .entry)) (now (source .entry)) limit (now (out .entry)) .out ⌝ }
 {

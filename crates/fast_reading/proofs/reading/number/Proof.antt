@@ -1,8 +1,7 @@
--- The number is there, so it is no cut.
-use Rattle.wire.proofs.Widths.{is-there, is-cut}
-use mathlib.Core.Path.{_∙_, sym}
+-- By the width; a longer number is two numbers one behind another.
 use native.Mathlib.Omega.{arith}
 use borrow.Author.Needs.{needs}
+use Rattle.wire.proofs.Widths.{join}
 use Rattle.fast_reading.proofs.reading.number.Statement.{statement}
 use Rattle.fast_reading.proofs.reading.number.Tie as tie
 
@@ -10,8 +9,33 @@ pub number-spec : {M : Type 1} → statement M
 number-spec =
     tie.close
     (tie.spec
-    (λ c κs. search needs)
+    (λ c. search needs)
+    (λ c κs. omega (arith, rw (c .enum-told .given .1) at (c .before .before .before .pre)))
     (λ c. search needs)
     (λ c. search needs)
-    (λ c. is-there _ _ _ _ (sym (c .before .v .given .1) ∙ c .before .before .before .number-at .ensures) .1)
-    (λ c. absurd (omega (arith, is-cut _ _ _ (sym (c .enum-told .given .1) ∙ c .before .before .number-at .ensures), c .before .before .before .before .pre))))
+    (λ c κs. omega (arith, rw (c .enum-told2 .given .1) at (c .before .before .before .pre)))
+    (λ c. search needs)
+    (λ c. search needs)
+    (λ c κs. omega (arith, rw (c .enum-told3 .given .1) at (c .before .before .before .pre)))
+    (λ c. search needs)
+    (λ c. search needs)
+    (λ c. search needs)
+    (λ c κs. omega (arith, rw (c .before .enum-told3 .given .1) at (c .before .before .before .before .pre)))
+    (λ c. search needs)
+    (λ c. search needs)
+    (λ c. search needs)
+    (λ c κs. omega (arith, rw (c .enum-told4 .given .1) at (c .before .before .before .pre)))
+    (λ c. search needs)
+    (λ c. search needs)
+    (λ c κs. omega (arith, rw (c .enum-told5 .given .1) at (c .before .before .before .pre)))
+    (λ c. search needs)
+    (λ c. search needs)
+    (λ c. search needs)
+    (λ c κs. omega (arith, rw (c .before .enum-told5 .given .1) at (c .before .before .before .before .pre)))
+    (λ c. search needs)
+    (λ c. search needs)
+    (λ c. rw (c .before .enum-told .given .1) (c .one .ensures .0))
+    (λ c. rw (c .before .enum-told2 .given .1) (c .two .ensures .0))
+    (λ c. rw (c .before .before .enum-told3 .given .1, c .before .two2 .ensures .0, c .one2 .ensures .0) (join 2 1 _ _))
+    (λ c. rw (c .before .enum-told4 .given .1) (c .four .ensures))
+    (λ c. rw (c .before .before .enum-told5 .given .1, c .before .four2 .ensures, c .four3 .ensures) (join 4 4 _ _)))

@@ -1,33 +1,23 @@
--- What the ledger answers, by whether reading or the ledger does.
-use mathlib.Core.Path.{_∙_, sym, ap}
-use native.Mathlib.Omega.{arith}
+-- Where the ledger has a credit for the frame, the fast reader's answer is the ledger's; where it leaves the slots alone, or there is
+-- no credit, the reader of any layout is asked.
 use denote.Ref.{now}
-use Rattle.wire.specs.Integers.{Bytes}
-use Rattle.layouts.specs.Answer.{answerOf}
-use Rattle.credit.specs.Calls.{Reply}
-use Rattle.credit.specs.Step.{answerOfReceived}
-use Rattle.credit.specs.declared.receiving.Received.{Received}
-use Rattle.krevilosh.specs.Answer.{creditNumber, creditSlots}
-use Rattle.krevilosh.proofs.Answers.{read-number, read-slots, received-fits}
+use Rattle.credit.specs.Calls.{received}
+use Rattle.credit.specs.Step.{answer}
+use Rattle.krevilosh.proofs.Answers.{received-fast, left-alone, as-received}
 use borrow.Author.Needs.{needs}
 use Rattle.krevilosh.proofs.reading.krevilosh_credit_receive.Statement.{statement}
 use Rattle.krevilosh.proofs.reading.krevilosh_credit_receive.Tie as tie
 
 pub krevilosh-credit-receive-spec : {M : Type 1} → statement M
-unfolding Bytes
 krevilosh-credit-receive-spec =
     tie.close
     (tie.spec
     (λ c κs. search needs)
-    (λ c. search needs)
-    (λ c κs. let a = c .before .before .before .before .before .before .before .args in
-    let p = sym (ap (λ (r : Received). answerOfReceived r) (c .before .before .answered .given .1)) ∙ c .before .before .before .before .receive .ensures .0 in
-    received-fits (now (a .credits)) (now (a .bytes)) (a .limit) (answerOf (c .before .before .answered .given .0 .0)) (λ i. omega (arith, c .before .before .before .before .before .before .shared-slice-known .given i)) p)
-    (λ c. search needs)
-    (λ c. search needs)
-    (λ c. let a = c .before .before .before .before .before .before .before .before .args in
-    let p = sym (ap (λ (r : Received). answerOfReceived r) (c .before .before .before .answered .given .1)) ∙ c .before .before .before .before .before .receive .ensures .0 in
-    (c .put-reading .ensures .0 ∙ read-number (answerOf (c .before .before .before .answered .given .0 .0)) ∙ ap (λ (x : Reply). creditNumber x) p, (c .before .before .before .before .before .receive .ensures .1, c .put-reading .ensures .1 ∙ read-slots (now (a .frame)) (answerOf (c .before .before .before .answered .given .0 .0)) ∙ ap (λ (x : Reply). creditSlots (now (a .frame)) x) p)))
-    (λ c. let a = c .before .before .before .before .before .before .args in
-    let p = sym (ap (λ (r : Received). answerOfReceived r) (c .before .answered2 .given .1)) ∙ c .before .before .before .receive .ensures .0 in
-    (ap (λ (x : Reply). creditNumber x) p, (c .before .before .before .receive .ensures .1, ap (λ (x : Reply). creditSlots (now (a .frame)) x) p))))
+    (λ c κs. search needs)
+    (λ c κs. search needs)
+    (λ c κs. search needs)
+    (λ c. received-fast _ _ _ _ _ _ _ _ _ (c .before .before .before .before .before .before .before .before .subscription-of .ensures) (c .before .before .before .before .before .before .affords .ensures) (c .before .before .before .before .before .if1 .taken) (c .before .before .before .read .ensures) (c .before .before .if2 .taken) (c .spend .ensures))
+    (λ c κs. search needs)
+    (λ c. let a = c .before .before .before .before .before .before .before .before .before .before .before .args in let r = c .receive-any .ensures in (r .0, (r .1 .0, as-received (now (a .frame)) _ _ (answer (now (a .credits)) (received (now (a .bytes)) (a .limit))) (left-alone _ _ _ _ (c .before .before .before .before .read .ensures) (c .before .before .before .if2 .left)) (r .1 .1))))
+    (λ c κs. search needs)
+    (λ c. c .receive-any2 .ensures))
