@@ -94,8 +94,8 @@ pub fn median(mut values: Vec<f64>) -> f64 {
 
 /// Nanoseconds a call of each, medians over repeats that take turns.
 pub fn times(mut first: impl FnMut(), mut second: impl FnMut()) -> (f64, f64) {
-    const REPEATS: usize = 41;
-    const NANOSECONDS: f64 = 500_000.0;
+    const REPEATS: usize = 401;
+    const NANOSECONDS: f64 = 100_000.0;
     let mut sample = |calls: u32, which: bool| {
         let start = Instant::now();
         for _ in 0..calls {

@@ -511,11 +511,12 @@ fn number(s: &[u8], at: usize, width: Width) -> u64
     }
 }
 
+// One sum: the compiler sees a load in it, which it does not in a sum of halves.
 fn four(s: &[u8], at: usize) -> u32
     requires { ⌜ at + 4 ≤ length (now s) ⌝ }
     ensures { λ r. ⌜ r ≡ bigEndian 4 (now (s .entry)) at ⌝ }
 {
-    two(s, at) * 0x1_0000 + two(s, at + 2)
+    one(s, at) * 0x100_0000 + one(s, at + 1) * 0x1_0000 + one(s, at + 2) * 0x100 + one(s, at + 3)
 }
 
 fn two(s: &[u8], at: usize) -> u32
