@@ -6,9 +6,7 @@ ghost use Rattle.protocol.specs.Decision.{layout, decide, decisionOf};
 ghost use Rattle.protocol.specs.Kinds.{spec₀};
 ghost use Rattle.protocol.specs.Fields as F;
 ghost use Rattle.protocol.specs.Table.{rowOf};
-ghost use Rattle.rules.specs.Reading.{overLimit};
 ghost use Rattle.fields.specs.Writer.{state, stepField, stepRow};
-ghost use Rattle.layouts.specs.Content.{stepHead};
 ghost use Rattle.frames.specs.Written.{writingOf, stepFrame};
 ghost use Rattle.flat.specs.Unflat.{unflatFrame, unflatOffset, unflatRow, writeFlat};
 ghost use Rattle.flat_writing.specs.Row.{rowFrom, stepKind};
@@ -34,6 +32,8 @@ use fields::write_u16;
 use fields::write_u32;
 use fields::write_u64;
 use frames::Written;
+use frames::over_limit;
+use layouts::write_head;
 use protocol::Form;
 use protocol::OffsetSpecification;
 use protocol::Picked;
@@ -94,16 +94,6 @@ fn write_kinds(slots: &[u64], src: &[u8], limit: u32, out: &mut [u8], kinds: Kin
     Written::Length(size as u64 + 4)
 }
 
-// Whether Size is above the limit; 0 is no limit.
-fn over_limit(limit: u32, size: u64) -> bool
-    ensures { λ r. ⌜ r ≡ overLimit limit size ⌝ }
-{
-    if limit == 0 {
-        return false;
-    }
-    (limit as u64) < size
-}
-
 // Key, version and content.
 fn behind_size(w: Writer, src: &[u8], out: &mut [u8], slots: &[u64], kinds: Kinds) -> Writer
     requires { ⌜ rowFrom kinds ≡ rowOf (getD (now slots) 0 0) (getD (now slots) 1 0) ⌝ }
@@ -113,21 +103,6 @@ fn behind_size(w: Writer, src: &[u8], out: &mut [u8], slots: &[u64], kinds: Kind
     let version = slot(slots, 0, 1);
     let w = write_head(w, out, key, version);
     write_fields(w, src, out, slots, kinds)
-}
-
-// Key and version, two bytes each.
-fn write_head(w: Writer, out: &mut [u8], key: u64, version: u64) -> Writer
-    ensures { λ r. ⌜ state r (now (out .exit)) ≡ stepHead key version (state w (now (out .entry))) ⌝ }
-{
-    if w.refused != 0 {
-        return w;
-    }
-    if !w.putting {
-        return w.count(4);
-    }
-    let at = w.at;
-    let next = wire::put_number(out, at, Width::Two, key);
-    Writer::at_place(wire::put_number(out, next, Width::Two, version))
 }
 
 // The fields, whose slots stand behind those of key and version.

@@ -3,6 +3,7 @@ mod limit;
 mod reading;
 mod writing;
 
+pub use limit::over_limit;
 pub use reading::read;
 pub use writing::Written;
 pub use writing::write;

@@ -6,7 +6,7 @@ use fields::Writer;
 use wire::Width;
 
 // Key and version, two bytes each.
-pub fn write_head(w: Writer, out: &mut [u8], key: u16, version: u16) -> Writer
+pub fn write_head(w: Writer, out: &mut [u8], key: u64, version: u64) -> Writer
     ensures { λ r. ⌜ state r (now (out .exit)) ≡ stepHead key version (state w (now (out .entry))) ⌝ }
 {
     if w.refused != 0 {
@@ -16,6 +16,6 @@ pub fn write_head(w: Writer, out: &mut [u8], key: u16, version: u16) -> Writer
         return w.count(4);
     }
     let at = w.at;
-    let next = wire::put_number(out, at, Width::Two, key as u64);
-    Writer::at_place(wire::put_number(out, next, Width::Two, version as u64))
+    let next = wire::put_number(out, at, Width::Two, key);
+    Writer::at_place(wire::put_number(out, next, Width::Two, version))
 }

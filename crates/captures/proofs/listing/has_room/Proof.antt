@@ -1,7 +1,6 @@
 -- By the two tests.
 use mathlib.Core.Path.{refl}
 use Rattle.captures.proofs.Listings.{room-none, room-some}
-use borrow.Author.Needs.{needs}
 use Rattle.captures.proofs.listing.has_room.Statement.{statement}
 use Rattle.captures.proofs.listing.has_room.Tie as tie
 

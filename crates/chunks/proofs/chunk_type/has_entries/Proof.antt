@@ -1,6 +1,5 @@
 -- A negative type has its top bit set.
 use Rattle.chunks.proofs.ChunkTypes.{user-bits}
-use borrow.Author.Needs.{needs}
 use Rattle.chunks.proofs.chunk_type.has_entries.Statement.{statement}
 use Rattle.chunks.proofs.chunk_type.has_entries.Tie as tie
 

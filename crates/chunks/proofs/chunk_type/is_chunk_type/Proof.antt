@@ -1,6 +1,5 @@
 -- A negative type has its top bit set.
 use Rattle.chunks.proofs.ChunkTypes.{type-bits}
-use borrow.Author.Needs.{needs}
 use Rattle.chunks.proofs.chunk_type.is_chunk_type.Statement.{statement}
 use Rattle.chunks.proofs.chunk_type.is_chunk_type.Tie as tie
 

@@ -3,7 +3,6 @@ use Rattle.fields.proofs.Chains.{done}
 use Rattle.layouts.proofs.Contents.{whole-content}
 use Rattle.protocol.specs.Table.{table, rowIn}
 use mathlib.Core.Path.{refl, _∙_}
-use borrow.Author.Needs.{needs}
 use Rattle.control_layouts.proofs.connection.read_heartbeat.Statement.{statement}
 use Rattle.control_layouts.proofs.connection.read_heartbeat.Tie as tie
 
@@ -12,7 +11,7 @@ unfolding table rowIn
 read-heartbeat-spec =
     tie.close
     (tie.spec
-    (λ c κs. search needs)
-    (λ c κs. search needs)
+    (λ c κs. tt)
+    (λ c κs. tt)
     (λ c.
     c .finish .ensures ∙ whole-content 0x0017 1 refl (c .before .content .ensures) done))

@@ -3,7 +3,6 @@ use Rattle.fields.proofs.Chains.{done, link}
 use Rattle.layouts.proofs.Contents.{whole-content}
 use Rattle.protocol.specs.Table.{table, rowIn}
 use mathlib.Core.Path.{refl, _∙_}
-use borrow.Author.Needs.{needs}
 use Rattle.control_layouts.proofs.connection.read_sasl_handshake.Statement.{statement}
 use Rattle.control_layouts.proofs.connection.read_sasl_handshake.Tie as tie
 
@@ -12,9 +11,9 @@ unfolding table rowIn
 read-sasl-handshake-spec =
     tie.close
     (tie.spec
-    (λ c κs. search needs)
-    (λ c κs. search needs)
-    (λ c κs. search needs)
+    (λ c κs. tt)
+    (λ c κs. tt)
+    (λ c κs. tt)
     (λ c.
     let correlation-id = c .before .before in
     c .finish .ensures ∙ whole-content 0x0012 1 refl (correlation-id .before .content .ensures)

@@ -3,7 +3,6 @@ use Rattle.fields.proofs.Steps.{done, link}
 use Rattle.layouts.proofs.Contents.{layout-written}
 use Rattle.protocol.specs.Table.{table, rowIn}
 use mathlib.Core.Path.{refl, _∙_}
-use borrow.Author.Needs.{needs}
 use Rattle.control_layouts.proofs.connection.write_close.Statement.{statement}
 use Rattle.control_layouts.proofs.connection.write_close.Tie as tie
 
@@ -12,10 +11,10 @@ unfolding table rowIn
 write-close-spec =
     tie.close
     (tie.spec
-    (λ c κs. search needs)
-    (λ c κs. search needs)
-    (λ c κs. search needs)
-    (λ c κs. search needs)
+    (λ c κs. tt)
+    (λ c κs. tt)
+    (λ c κs. tt)
+    (λ c κs. tt)
     (λ c.
     let closing-reason = c .before in
     let closing-code = closing-reason .before .before .before .before in

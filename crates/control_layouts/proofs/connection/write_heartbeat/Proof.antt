@@ -3,7 +3,6 @@ use Rattle.fields.proofs.Steps.{done}
 use Rattle.layouts.proofs.Contents.{layout-written}
 use Rattle.protocol.specs.Table.{table, rowIn}
 use mathlib.Core.Path.{refl}
-use borrow.Author.Needs.{needs}
 use Rattle.control_layouts.proofs.connection.write_heartbeat.Statement.{statement}
 use Rattle.control_layouts.proofs.connection.write_heartbeat.Tie as tie
 
@@ -12,7 +11,7 @@ unfolding table rowIn
 write-heartbeat-spec =
     tie.close
     (tie.spec
-    (λ c κs. search needs)
+    (λ c κs. tt)
     (λ c.
     let head = c .before in
     head .out .given)

@@ -3,7 +3,6 @@ use Rattle.fields.proofs.Steps.{done, link}
 use Rattle.layouts.proofs.Contents.{layout-written}
 use Rattle.protocol.specs.Table.{table, rowIn}
 use mathlib.Core.Path.{refl, _∙_}
-use borrow.Author.Needs.{needs}
 use Rattle.control_layouts.proofs.connection.write_sasl_handshake.Statement.{statement}
 use Rattle.control_layouts.proofs.connection.write_sasl_handshake.Tie as tie
 
@@ -12,8 +11,8 @@ unfolding table rowIn
 write-sasl-handshake-spec =
     tie.close
     (tie.spec
-    (λ c κs. search needs)
-    (λ c κs. search needs)
+    (λ c κs. tt)
+    (λ c κs. tt)
     (λ c.
     let correlation-id = c .before in
     let head = correlation-id .before .before .before .before in

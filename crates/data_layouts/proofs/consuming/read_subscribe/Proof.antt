@@ -3,7 +3,6 @@ use Rattle.fields.proofs.Chains.{done, link}
 use Rattle.layouts.proofs.Contents.{whole-content}
 use Rattle.protocol.specs.Table.{table, rowIn}
 use mathlib.Core.Path.{refl, _∙_}
-use borrow.Author.Needs.{needs}
 use Rattle.data_layouts.proofs.consuming.read_subscribe.Statement.{statement}
 use Rattle.data_layouts.proofs.consuming.read_subscribe.Tie as tie
 
@@ -12,14 +11,14 @@ unfolding table rowIn
 read-subscribe-spec =
     tie.close
     (tie.spec
-    (λ c κs. search needs)
-    (λ c κs. search needs)
-    (λ c κs. search needs)
-    (λ c κs. search needs)
-    (λ c κs. search needs)
-    (λ c κs. search needs)
-    (λ c κs. search needs)
-    (λ c κs. search needs)
+    (λ c κs. tt)
+    (λ c κs. tt)
+    (λ c κs. tt)
+    (λ c κs. tt)
+    (λ c κs. tt)
+    (λ c κs. tt)
+    (λ c κs. tt)
+    (λ c κs. tt)
     (λ c.
     let properties = c .before .before .before in
     let credit = properties .before .before in

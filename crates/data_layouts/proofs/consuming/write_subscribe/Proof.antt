@@ -3,7 +3,6 @@ use Rattle.fields.proofs.Steps.{done, link}
 use Rattle.layouts.proofs.Contents.{layout-written}
 use Rattle.protocol.specs.Table.{table, rowIn}
 use mathlib.Core.Path.{refl, _∙_}
-use borrow.Author.Needs.{needs}
 use Rattle.data_layouts.proofs.consuming.write_subscribe.Statement.{statement}
 use Rattle.data_layouts.proofs.consuming.write_subscribe.Tie as tie
 
@@ -12,13 +11,13 @@ unfolding table rowIn
 write-subscribe-spec =
     tie.close
     (tie.spec
-    (λ c κs. search needs)
-    (λ c κs. search needs)
-    (λ c κs. search needs)
-    (λ c κs. search needs)
-    (λ c κs. search needs)
-    (λ c κs. search needs)
-    (λ c κs. search needs)
+    (λ c κs. tt)
+    (λ c κs. tt)
+    (λ c κs. tt)
+    (λ c κs. tt)
+    (λ c κs. tt)
+    (λ c κs. tt)
+    (λ c κs. tt)
     (λ c.
     let properties = c .before in
     let credit = properties .before .before .before .before in

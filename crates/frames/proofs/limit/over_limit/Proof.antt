@@ -1,6 +1,5 @@
 -- By whether there is a limit.
 use borrow.Author.Tests.{eq-eqb, ne-eqb}
-use borrow.Author.Needs.{needs}
 use Rattle.frames.proofs.limit.over_limit.Statement.{statement}
 use Rattle.frames.proofs.limit.over_limit.Tie as tie
 

@@ -13,7 +13,7 @@ unfolding Bytes
 read-spec =
     tie.close
     (tie.spec
-    (λ c κs. search needs)
+    (λ c κs. tt)
     (λ c. search needs)
     (λ c κs. let n = c .before .before .before in rw (is-there _ _ _ _ (sym (c .before .size .given .1) ∙ n .number-at .ensures) .1) (integers 4 .range _ 0 (λ i. omega (arith, n .before .shared-slice-known .given i))))
     (λ c. search needs)

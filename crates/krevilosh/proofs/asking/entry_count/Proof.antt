@@ -1,7 +1,6 @@
 -- By the test.
 use borrow.Author.Tests.{lt-ltb, le-ltb}
 use Rattle.krevilosh.proofs.Questions.{fits-16}
-use borrow.Author.Needs.{needs}
 use Rattle.krevilosh.proofs.asking.entry_count.Statement.{statement}
 use Rattle.krevilosh.proofs.asking.entry_count.Tie as tie
 

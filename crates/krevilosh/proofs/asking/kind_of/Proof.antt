@@ -1,6 +1,5 @@
 -- The tests in their order.
 use borrow.Author.Tests.{eq-eqb, ne-eqb}
-use borrow.Author.Needs.{needs}
 use Rattle.krevilosh.proofs.asking.kind_of.Statement.{statement}
 use Rattle.krevilosh.proofs.asking.kind_of.Tie as tie
 
