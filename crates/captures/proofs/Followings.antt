@@ -5,18 +5,24 @@ use mathlib.Core.Bool.{Bool, true, false, cond}
 use mathlib.Core.List.{List, [], _∷_, _++_}
 use mathlib.Core.Logic.{_⊎_, inl, inr}
 use Prim.Native.Nat.{ℕ, zero, suc, _+_, _<_, _≤_}
+use lib.Dec.{ltb}
 use lib.ListN.{length, drop, length-append, length-drop}
 use lib.Seq.{take-append-le}
 use native.Mathlib.Omega.{arith}
+use borrow.Author.Tests.{ltb-true, ltb-false}
 use Rattle.wire.proofs.Widths.{in-part}
 use Rattle.wire.specs.Integers.{bigEndian}
-use Rattle.protocol.specs.Fields.{Fields}
+use Rattle.protocol.specs.Decision.{Decision, layout, unlistedKey, unlistedVersion, decide}
+use Rattle.protocol.specs.Fields.{Field, Fields}
+use Rattle.protocol.specs.Table.{rowOf}
 use Rattle.protocol.specs.declared.place.Place.{Place}
+use Rattle.rules.proofs.Gives.{choice}
 use Rattle.rules.proofs.Heads.{Head, head}
 use Rattle.rules.specs.Exactness.{frameLength}
-use Rattle.rules.specs.Reading.{Reading, frame, short, refusal, readFrame}
+use Rattle.rules.specs.Outcome.{Outcome, got, refused as unread}
+use Rattle.rules.specs.Reading.{Reading, frame, short, refusal, readContent, readingOf, readLayout, readDecided, overLimit, readSized, readFrame}
 use Rattle.captures.specs.Text.{joined}
-use Rattle.captures.specs.Listing.{limit, Next, framed, whole, cut, refused, more, nextOf, following, WindowTells, frameLine, linesFrom, lines, linesOf, LinesUnfold}
+use Rattle.captures.specs.Listing.{limit, Next, framed, whole, cut, refused, more, nextOf, following, WindowTells, MoreIsShort, frameLine, linesFrom, lines, linesOf, LinesUnfold}
 use Rattle.rules.proofs.Beyond.{answer-stays}
 
 pub nothing-left : (s : List ℕ) (ended t : Bool) → length s ≡ 0 → ended ≡ t → cond t whole more ≡ following s ended
@@ -61,6 +67,41 @@ unfolding following
 window-tells [] rest = inl refl
 window-tells (b ∷ s) rest =
     tells (b ∷ s) rest (λ z. absurd (omega (arith, z))) (λ z. absurd (omega (arith, z, length-append (b ∷ s) rest))) (readFrame (b ∷ s) limit) refl (answer-stays (b ∷ s) rest limit)
+
+-- What is short of a frame is shorter than the longest one: Size is looked at before the frame's end.
+abbrev Short : List ℕ → Reading → Type 0
+Short s (frame f) = Unit
+Short s (short n) = length s < limit + 4
+Short s (refusal n p) = Unit
+
+decided-short : (s : List ℕ) (d : Decision) (content : List ℕ) → Short s (readDecided d content)
+unfolding readDecided readLayout
+decided-short s (layout k v) content = by (readContent (rowOf k v) content)
+  where
+    by : (o : Outcome (List (Field Place))) → Short s (readingOf k v o)
+    by (got fs behind) = tt
+    by (unread n p) = tt
+decided-short s unlistedKey content = tt
+decided-short s unlistedVersion content = tt
+
+short-frame : (s : List ℕ) → Short s (readFrame s limit)
+unfolding readFrame readSized
+short-frame s =
+    choice (Short s) (ltb (length s) 4) _ _ (λ e. let l = ltb-true (length s) 4 e in omega (arith, l)) (λ _.
+    choice (Short s) (overLimit limit (bigEndian 4 s 0)) _ _ (λ _. tt) (λ o.
+    choice (Short s) (ltb (bigEndian 4 s 0) 4) _ _ (λ _. tt) (λ _.
+    choice (Short s) (ltb (length s) (bigEndian 4 s 0 + 4)) _ _ (λ e. let l = ltb-true (length s) (bigEndian 4 s 0 + 4) e in let m = ltb-false limit (bigEndian 4 s 0) o in omega (arith, l, m)) (λ _.
+    decided-short s (decide (bigEndian 2 s 4) (bigEndian 2 s 6)) _))))
+
+pub more-is-short : MoreIsShort
+unfolding following
+more-is-short [] ended e = omega arith
+more-is-short (b ∷ s) ended e = by ended (readFrame (b ∷ s) limit) (short-frame (b ∷ s)) e
+  where
+    by : (ended : Bool) (r : Reading) → Short (b ∷ s) r → nextOf r ended (length (b ∷ s)) (frameLength (b ∷ s)) ≡ more → length (b ∷ s) < limit + 4
+    by ended (frame f) h e = absurd (let o : _≡_ {A = ℕ} 0 1 = cc in omega arith)
+    by ended (short n) h e = h
+    by ended (refusal n p) h e = absurd (let o : _≡_ {A = ℕ} 0 1 = cc in omega arith)
 
 -- A frame that comes next is there, and has bytes.
 abbrev There : List ℕ → Next → Type 0

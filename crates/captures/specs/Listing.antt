@@ -3,7 +3,7 @@ use mathlib.Core.Path.{_≡_}
 use mathlib.Core.Bool.{Bool, true, false, cond}
 use mathlib.Core.List.{List, [], _∷_, _++_}
 use mathlib.Core.Logic.{_⊎_}
-use Prim.Native.Nat.{ℕ, zero, suc, _+_}
+use Prim.Native.Nat.{ℕ, zero, suc, _+_, _<_}
 use lib.ListN.{length, drop}
 use Rattle.rules.specs.Exactness.{frameLength}
 use Rattle.rules.specs.Reading.{Reading, frame, short, refusal, readFrame}
@@ -36,6 +36,11 @@ following (b ∷ s) ended = nextOf (readFrame (b ∷ s) limit) ended (length (b 
 -- What comes next in a window is what comes next in the capture, unless more bytes are needed to tell.
 abbrev pub WindowTells : Type 0
 WindowTells = (w rest : List ℕ) → (following w false ≡ more) ⊎ (following (w ++ rest) true ≡ following w false)
+
+-- Where more bytes are needed, fewer are there than the longest frame within the limit has. So a window that holds such a
+-- frame always has room for more.
+abbrev pub MoreIsShort : Type 0
+MoreIsShort = (s : List ℕ) (ended : Bool) → following s ended ≡ more → length s < limit + 4
 
 -- One line a frame: offset, total bytes, key as four lower-case hex digits, version.
 abbrev pub frameLine : ℕ → ℕ → ℕ → ℕ → List (List ℕ)

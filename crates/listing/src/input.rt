@@ -1,10 +1,13 @@
 // Standard input, read into a window.
 ghost use mathlib.Core.Path.{_≡_};
-ghost use mathlib.Core.Bool.{false};
-ghost use Prim.Native.Nat.{_<_, _≤_, min};
-ghost use lib.ListN.{length, take};
-ghost use Rattle.listing.specs.Filling.{Fills, Goes};
+ghost use Prim.Native.Nat.{_+_, _-_, _<_, _≤_};
+ghost use lib.ListN.{length};
+ghost use Rattle.listing.specs.Filling.{Fills, Moves};
+use captures::to_front;
 use libc::STDIN_FILENO;
+
+// The bytes of the longest frame within the limit of a listing.
+const LONGEST: usize = 65536;
 
 // How many bytes the window holds. The input goes on behind them, has ended, or can't be read.
 pub struct Filled {
@@ -13,33 +16,11 @@ pub struct Filled {
     pub failed: bool,
 }
 
-// Reads behind the first bytes of the window, until it is full or the input goes on no further.
-pub fn fill(window: &mut [u8], start: usize) -> Filled
-    ensures { λ r. ⌜ Fills (now (window .entry)) start (now (window .exit)) (r .held) ⌝ }
-{
-    let mut now = Filled {
-        held: least(start, window.len()),
-        ended: false,
-        failed: false,
-    };
-    while now.held < window.len() {
-        let held = now.held;
-        now = read_some(window, held);
-        if now.ended {
-            return now;
-        }
-        if now.failed {
-            return now;
-        }
-    }
-    now
-}
-
-// One read.
-fn read_some(window: &mut [u8], held: usize) -> Filled
+// One read, behind the bytes that the window holds. A single read a turn keeps the writer of a pipe busy, which a window
+// that is filled first does not.
+pub fn read_some(window: &mut [u8], held: usize) -> Filled
     requires { ⌜ held < length (now window) ⌝ }
     ensures { λ r. ⌜ Fills (now (window .entry)) held (now (window .exit)) (r .held) ⌝ }
-    ensures { λ r. ⌜ Goes held r ⌝ }
 {
     let got = libc::read(STDIN_FILENO, &mut window[held..]);
     if got < 0 {
@@ -57,8 +38,16 @@ fn read_some(window: &mut [u8], held: usize) -> Filled
     }
 }
 
-fn least(a: usize, b: usize) -> usize
-    ensures { λ r. ⌜ r ≡ min a b ⌝ }
+// Where what is left of the window begins, once there is room for the longest frame behind it: the bytes from a place up to
+// another stay where they are, or are moved to the front.
+pub fn make_room(window: &mut [u8], from: usize, held: usize) -> usize
+    requires { ⌜ from ≤ held ⌝ }
+    requires { ⌜ held ≤ length (now window) ⌝ }
+    ensures { λ r. ⌜ Moves (now (window .entry)) from held (now (window .exit)) r ⌝ }
 {
-    if a < b { a } else { b }
+    if LONGEST <= window.len() - held {
+        return from;
+    }
+    to_front(window, from, held);
+    0
 }

@@ -1,34 +1,40 @@
-// The capture listed, window by window.
-ghost use Prim.Native.Nat.{_≤_};
+// The capture listed, a read at a time.
+ghost use mathlib.Core.Bool.{false};
+ghost use mathlib.Core.Path.{_≡_};
+ghost use Prim.Native.Nat.{_+_, _<_, _≤_};
 ghost use lib.ListN.{length};
-ghost use Rattle.listing.specs.Filling.{Within};
-use crate::input::fill;
+ghost use Rattle.listing.specs.Filling.{Within, Refilled, emptied};
+use crate::input::make_room;
+use crate::input::read_some;
 use captures::Progress;
 use captures::State;
 use captures::list;
-use captures::to_front;
 use libc::STDERR_FILENO;
 use libc::STDOUT_FILENO;
 
-// The part of the window that is not listed yet, and how far the listing is.
+// The part of the window that is not listed yet, how far the listing is, and how much of its text is not written yet.
 pub struct Session {
     pub from: usize,
     pub held: usize,
     pub offset: u64,
     pub frames: u64,
+    pub waiting: usize,
     pub ended: bool,
     pub running: bool,
 }
 
 // A proved loop has to end, and nothing says that an input does. So the loop counts its turns down, from a number that
 // no run uses up.
-pub fn run(window: &mut [u8], text: &mut [u8]) {
+pub fn run(window: &mut [u8], text: &mut [u8])
+    requires { ⌜ 131072 ≤ length (now window) ⌝ }
+{
     let mut turns = u64::MAX;
     let mut at = Session {
         from: 0,
         held: 0,
         offset: 0,
         frames: 0,
+        waiting: 0,
         ended: false,
         running: true,
     };
@@ -41,13 +47,15 @@ pub fn run(window: &mut [u8], text: &mut [u8]) {
     }
 }
 
-// Lists what the window holds, as far as there is room for the text, and writes it.
+// Lists what the window holds, as far as there is room for the text. The text is written once the room is used up, or the
+// listing ends.
 fn turn(window: &mut [u8], text: &mut [u8], at: Session) -> Session
-    requires { ⌜ Within (at .from) (at .held) (length (now window)) ⌝ }
-    ensures { λ r. ⌜ Within (r .from) (r .held) (length (now (window .exit))) ⌝ }
+    requires { ⌜ Within at (now window) (now text) ⌝ }
+    ensures { λ r. ⌜ Within r (now (window .exit)) (now (text .exit)) ⌝ }
 {
     let from = at.from;
     let held = at.held;
+    let waiting = at.waiting;
     let ended = at.ended;
     let start = Progress {
         from: 0,
@@ -56,63 +64,94 @@ fn turn(window: &mut [u8], text: &mut [u8], at: Session) -> Session
         written: 0,
         state: State::Going,
     };
-    let p = list(&window[from..held], ended, start, text);
-    let n = p.written;
-    if !io::write_all(STDOUT_FILENO, &text[..n]) {
-        return stopped(b"listing: standard output can't be written\n");
-    }
+    let p = list(&window[from..held], ended, start, &mut text[waiting..]);
     let next = Session {
         from: from + p.from,
         held: held,
         offset: p.offset,
         frames: p.frames,
+        waiting: waiting + p.written,
         ended: ended,
         running: true,
     };
     let state = p.state;
     match state {
-        State::Going => next,
-        State::More => more(window, next),
-        State::Done => stopped(b""),
-        State::TooLong => stopped(b"listing: the capture is too long\n"),
+        State::Going => flushed(text, next),
+        State::More => more(window, text, next),
+        State::Done => stopped(text, next, b""),
+        State::TooLong => stopped(text, next, b"listing: the capture is too long\n"),
     }
 }
 
-// Moves what is left to the window's front, and reads behind it.
-fn more(window: &mut [u8], at: Session) -> Session
-    ensures { λ r. ⌜ Within (r .from) (r .held) (length (now (window .exit))) ⌝ }
+// Reads more behind what is left.
+fn more(window: &mut [u8], text: &[u8], at: Session) -> Session
+    requires { ⌜ Within at (now window) (now text) ⌝ }
+    requires { ⌜ at .held < at .from + 65536 ⌝ }
+    ensures { λ r. ⌜ Within r (now (window .exit)) (now (text .entry)) ⌝ }
+    ensures { λ r. ⌜ Refilled at (now (window .entry)) (now (window .exit)) r ⌝ }
 {
     let from = at.from;
     let held = at.held;
-    if held < from {
-        return stopped(b"");
-    }
-    to_front(window, from, held);
-    let filled = fill(window, held - from);
+    let start = make_room(window, from, held);
+    let filled = read_some(window, start + (held - from));
     if filled.failed {
-        return stopped(b"listing: standard input can't be read\n");
+        return stopped(text, at, b"listing: standard input can't be read\n");
     }
     Session {
-        from: 0,
+        from: start,
         held: filled.held,
         offset: at.offset,
         frames: at.frames,
+        waiting: at.waiting,
         ended: filled.ended,
         running: true,
     }
 }
 
-// No more turns. A message says why, unless it is empty.
-fn stopped(message: &[u8]) -> Session
-    ensures { λ r. ⌜ Within (r .from) (r .held) 0 ⌝ }
+// Writes the text that waits.
+fn flushed(text: &[u8], at: Session) -> Session
+    requires { ⌜ at .waiting ≤ length (now text) ⌝ }
+    ensures { λ r. ⌜ r ≡ emptied at (r .running) ⌝ }
 {
-    io::write_all(STDERR_FILENO, message);
+    let n = at.waiting;
+    if !io::write_all(STDOUT_FILENO, &text[..n]) {
+        io::write_all(
+            STDERR_FILENO,
+            b"listing: standard output can't be written\n",
+        );
+        return halted(at);
+    }
     Session {
-        from: 0,
-        held: 0,
-        offset: 0,
-        frames: 0,
-        ended: false,
+        from: at.from,
+        held: at.held,
+        offset: at.offset,
+        frames: at.frames,
+        waiting: 0,
+        ended: at.ended,
+        running: true,
+    }
+}
+
+// No more turns. The text that waits is written; a message says why, unless it is empty.
+fn stopped(text: &[u8], at: Session, message: &[u8]) -> Session
+    requires { ⌜ at .waiting ≤ length (now text) ⌝ }
+    ensures { λ r. ⌜ r ≡ emptied at false ⌝ }
+{
+    flushed(text, at);
+    io::write_all(STDERR_FILENO, message);
+    halted(at)
+}
+
+fn halted(at: Session) -> Session
+    ensures { λ r. ⌜ r ≡ emptied at false ⌝ }
+{
+    Session {
+        from: at.from,
+        held: at.held,
+        offset: at.offset,
+        frames: at.frames,
+        waiting: 0,
+        ended: at.ended,
         running: false,
     }
 }

@@ -9,4 +9,4 @@ pub empty-window-spec : {M : Type 1} → statement M
 empty-window-spec =
     tie.close
     (tie.spec
-    (λ c. sym (length-replicate {0} {A = ℕ} 1048576 0)))
+    (λ c. sym (length-replicate {0} {A = ℕ} 262144 0)))

@@ -1,8 +1,6 @@
 -- What is read lies behind what is held.
-use native.Mathlib.Omega.{arith}
-use Prim.Native.Nat.{ℕ}
-use mathlib.Core.Path.{_≡_, refl}
-use Rattle.listing.proofs.Fillings.{read-none, read-fills, read-goes}
+use mathlib.Core.Path.{refl}
+use Rattle.listing.proofs.Fillings.{read-none, read-fills}
 use borrow.Author.Needs.{needs}
 use Rattle.listing.proofs.input.read_some.Statement.{statement}
 use Rattle.listing.proofs.input.read_some.Tie as tie
@@ -16,11 +14,11 @@ read-some-spec =
     (λ c. search needs)
     (λ c κs. search needs)
     (λ c. search needs)
-    (λ c. (read-none (c .before .before .before .before .before .before .args .window .now) _ (c .before .before .before .read .last .1 .0) (c .before .before .before .before .before .before .args .held) (c .before .before .before .before .before .before .pre) refl (search needs), λ e f. absurd (let o : _≡_ {A = ℕ} 0 1 = cc in omega arith)))
+    (λ c. read-none (c .before .before .before .before .before .before .args .window .now) _ (c .before .before .before .read .last .1 .0) (c .before .before .before .before .before .before .args .held) (c .before .before .before .before .before .before .pre) refl (search needs))
     (λ c. search needs)
     (λ c. search needs)
     (λ c. search needs)
     (λ c κs. search needs)
     (λ c. search needs)
     (λ c. search needs)
-    (λ c. (read-fills (c .before .before .before .before .before .before .before .before .before .args .window .now) _ (c .before .before .before .before .before .before .read .last .1 .0) (c .before .before .before .before .before .before .before .before .before .args .held) (c .before .before .before .before .before .before .before .before .before .pre) refl (search needs) _ (c .count .ensures .0 .0), λ e f. read-goes _ _ e)))
+    (λ c. read-fills (c .before .before .before .before .before .before .before .before .before .args .window .now) _ (c .before .before .before .before .before .before .read .last .1 .0) (c .before .before .before .before .before .before .before .before .before .args .held) (c .before .before .before .before .before .before .before .before .before .pre) refl (search needs) _ (c .count .ensures .0 .0)))

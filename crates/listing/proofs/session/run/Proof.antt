@@ -8,7 +8,7 @@ use Rattle.listing.proofs.session.run.Statement.{statement}
 use Rattle.listing.proofs.session.run.Tie as tie
 
 abbrev Inv-loop : tie.InvT-loop
-Inv-loop window₀ text₀ turns₀ at₀ window text turns at = Within (at .from) (at .held) (length window) × (length window ≡ length window₀) × (length text ≡ length text₀)
+Inv-loop window₀ text₀ turns₀ at₀ window text turns at = Within at window text × (length window ≡ length window₀) × (length text ≡ length text₀)
 
 abbrev μ-loop : tie.MeasureT-loop
 μ-loop window₀ text₀ turns₀ at₀ window text turns at = turns
@@ -19,7 +19,7 @@ run-spec =
     (tie.spec
     Inv-loop
     μ-loop
-    (λ c. ((omega arith, omega arith), refl, refl))
+    (λ c. (record { order = omega arith; inside = omega arith; roomy = c .before .before .pre; waiting = omega arith }, refl, refl))
     (λ c κs. c .before .before .before .loop .inv .0)
     (λ c. search needs)
     (λ c. search needs)
