@@ -9,12 +9,12 @@ A line of `stdin` is a vector: name, frame limit, bytes in hexadecimal (`-` for 
 
     NAME short NEEDED
     NAME refused NUMBER at PLACE
-    NAME frame KEY VERSION LENGTH CASE FIELDS...
+    NAME frame LENGTH KEY VERSION SLOTS...
     NAME cuts A B        how many cuts below 4 bytes need 4, and how many longer ones need LENGTH: all, if A + B = LENGTH
     NAME longer frame ...      the same with a byte ff behind the vector, if that is a frame
 
-KEY and VERSION are the bytes' own, CASE is the key and the version of the frame's case. A place is `at+length`, a list
-`count@at+length`, a signed number its bits in hexadecimal.
+KEY, VERSION and SLOTS are those of the frame that is handed over, as the C header lays them out; the zeros behind the last
+slot that is not 0 are left out.
 """
 import os
 
@@ -82,6 +82,12 @@ TABLE = """
 
 WIDTHS = {"c": 4, "rc": 2, "u8": 1, "u16": 2, "u32": 4, "u64": 8, "i64": 8}
 
+# The numbers of a chunk's header: width, and whether it is signed.
+HEADER = [(1, True), (1, True), (2, False), (4, False), (8, True), (8, False), (8, False), (4, True), (4, False), (4, False), (1, False), (3, False)]
+
+# The length of a null.
+NULL_LENGTH = 2**64 - 1
+
 
 def parsed(words):
     """The kinds up to the closing bracket or the end; a list is a Python list."""
@@ -113,7 +119,7 @@ class Refused(Exception):
 
 
 class Reader:
-    """Reads the fields of one whole frame. Each answers what is printed of it."""
+    """Reads the fields of one whole frame. Each answers its slots."""
 
     def __init__(self, frame):
         self.frame = frame
@@ -134,7 +140,7 @@ class Reader:
         if length < -1 or (length == -1 and not nullable):
             raise Refused(7, begin)
         if length == -1:
-            return "null"
+            return [0, NULL_LENGTH]
         if form == "R" and length > 256:
             raise Refused(9, begin)
         if self.left() < length:
@@ -146,7 +152,7 @@ class Reader:
                 self.frame[start : self.at].decode("utf-8")
             except UnicodeDecodeError:
                 raise Refused(8, begin)
-        return "%d+%d" % (start, length)
+        return [start, length]
 
     def elements(self, kinds):
         begin = self.at
@@ -157,31 +163,27 @@ class Reader:
         for _ in range(count):
             for kind in kinds:
                 self.field(kind)
-        return "%d@%d+%d" % (count, start, self.at - start)
+        return [count, start, self.at - start]
 
     def spec(self, least):
         begin = self.at
         kind = self.number(2)
         if kind < least or 5 < kind:
             raise Refused(10, begin)
-        if kind == 4:
-            return "offset %d" % self.number(8)
-        if kind == 5:
-            return "timestamp %016x" % self.number(8)
-        return ["none", "first", "last", "next"][kind]
+        return [kind, self.number(8) if kind in (4, 5) else 0]
 
     def flag(self):
         begin = self.at
         value = self.number(1)
         if value > 1:
             raise Refused(10, begin)
-        return ["inactive", "active"][value]
+        return [value]
 
     def chunk(self):
         begin = self.at
         if self.left() < 48:
             raise Refused(6, begin)
-        header = [self.number(width) for width in (1, 1, 2, 4, 8, 8, 8, 4, 4, 4, 1, 3)]
+        header = [self.number(width, signed) for width, signed in HEADER]
         kind, entries, records, length = header[1], header[2], header[3], header[8]
         if kind not in (0, 1, 2):
             raise Refused(10, begin + 1)
@@ -198,8 +200,7 @@ class Reader:
             if self.left() > 0:
                 raise Refused(11, self.at)
         self.at = len(self.frame)
-        told = "%02x %02x %d %d %016x %d %d %08x %d %d %d %d" % tuple(header)
-        return told + " %d+%d" % (start, length)
+        return header + [start, length]
 
     def entry(self):
         begin = self.at
@@ -216,7 +217,7 @@ class Reader:
         if kind[0] in "TRB":
             return self.string(kind[0], kind.endswith("?"))
         if kind in WIDTHS:
-            return str(self.number(WIDTHS[kind], kind == "i64"))
+            return [self.number(WIDTHS[kind])]
         return {"spec": lambda: self.spec(1), "spec0": lambda: self.spec(0), "flag": self.flag, "chunk": self.chunk}[kind]()
 
 
@@ -245,10 +246,12 @@ def read_frame(data, limit):
         raise Refused(5, 6)
     _, kinds = LAYOUTS[key, version]
     reader = Reader(data[: size + 4])
-    told = [reader.field(kind) for kind in kinds]
+    slots = [slot % 2**64 for kind in kinds for slot in reader.field(kind)]
     if reader.left() > 0:
         raise Refused(11, reader.at)
-    return " ".join(["frame %04x %d %d %04x%04x" % (key, version, size + 4, key, version)] + told)
+    while slots and slots[-1] == 0:
+        slots.pop()
+    return " ".join(["frame %d %04x %d" % (size + 4, key, version)] + list(map(str, slots)))
 
 
 # ---- Vectors --------------------------------------------------------------------------------------------------------

@@ -1,4 +1,4 @@
-// Reading and writing the layouts that open connections and manage streams, field by field in wire order.
+// Reading the layouts that open connections and manage streams, field by field in wire order.
 mod connection;
 mod streams;
 
@@ -17,21 +17,6 @@ pub use connection::read_sasl_handshake;
 pub use connection::read_sasl_handshake_response;
 pub use connection::read_tune;
 pub use connection::read_tune_response;
-pub use connection::write_close;
-pub use connection::write_close_response;
-pub use connection::write_exchange_command_versions;
-pub use connection::write_exchange_command_versions_response;
-pub use connection::write_heartbeat;
-pub use connection::write_open;
-pub use connection::write_open_response;
-pub use connection::write_peer_properties;
-pub use connection::write_peer_properties_response;
-pub use connection::write_sasl_authenticate;
-pub use connection::write_sasl_authenticate_response;
-pub use connection::write_sasl_handshake;
-pub use connection::write_sasl_handshake_response;
-pub use connection::write_tune;
-pub use connection::write_tune_response;
 pub use streams::read_create;
 pub use streams::read_create_response;
 pub use streams::read_create_super_stream;
@@ -49,20 +34,3 @@ pub use streams::read_route;
 pub use streams::read_route_response;
 pub use streams::read_stream_stats;
 pub use streams::read_stream_stats_response;
-pub use streams::write_create;
-pub use streams::write_create_response;
-pub use streams::write_create_super_stream;
-pub use streams::write_create_super_stream_response;
-pub use streams::write_delete;
-pub use streams::write_delete_response;
-pub use streams::write_delete_super_stream;
-pub use streams::write_delete_super_stream_response;
-pub use streams::write_metadata;
-pub use streams::write_metadata_response;
-pub use streams::write_metadata_update;
-pub use streams::write_partitions;
-pub use streams::write_partitions_response;
-pub use streams::write_route;
-pub use streams::write_route_response;
-pub use streams::write_stream_stats;
-pub use streams::write_stream_stats_response;

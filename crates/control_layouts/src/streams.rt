@@ -1,32 +1,18 @@
 // Streams, super streams, and where they are.
-ghost use mathlib.Core.List.{List, [], _∷_};
 ghost use mathlib.Core.Path.{_≡_};
-ghost use Prim.Native.Nat.{ℕ};
-ghost use Rattle.protocol.specs.Fields.{number};
-ghost use Rattle.protocol.specs.Frames.{listField, placeField};
 ghost use Rattle.rules.specs.Reading.{readLayout};
-ghost use Rattle.fields.specs.Writer.{state};
 ghost use Rattle.layouts.specs.Answer.{answerOf};
-ghost use Rattle.layouts.specs.Content.{stepLayout};
 use fields::Cursor;
-use fields::Writer;
 use fields::code_field;
 use fields::list_field;
 use fields::string_field;
 use fields::u16_field;
 use fields::u32_field;
-use fields::write_list;
-use fields::write_string;
-use fields::write_u16;
-use fields::write_u32;
 use layouts::Reading;
 use layouts::finish;
-use layouts::write_head;
 use protocol::Element;
-use protocol::Elements;
 use protocol::Form;
 use protocol::Frame;
-use protocol::Place;
 
 // c T [T T]
 pub fn read_create(s: &[u8]) -> Reading
@@ -50,22 +36,6 @@ pub fn read_create(s: &[u8]) -> Reading
     finish(s, next, frame)
 }
 
-pub fn write_create(
-    w: Writer,
-    src: &[u8],
-    out: &mut [u8],
-    correlation_id: u64,
-    stream: Place,
-    arguments: Elements,
-) -> Writer
-    ensures { λ r. ⌜ state r (now (out .exit)) ≡ stepLayout 0x000d 1 (now (src .entry)) (number «correlation_id» ∷ placeField stream ∷ listField arguments ∷ []) (state w (now (out .entry))) ⌝ }
-{
-    let w = write_head(w, out, 0x000d, 1);
-    let w = write_u32(w, out, correlation_id);
-    let w = write_string(w, src, out, Form::Text, stream);
-    write_list(w, src, out, Element::Property, arguments)
-}
-
 // c rc
 pub fn read_create_response(s: &[u8]) -> Reading
     ensures { λ r. ⌜ answerOf r ≡ readLayout 0x800d 1 (now (s .entry)) ⌝ }
@@ -82,14 +52,6 @@ pub fn read_create_response(s: &[u8]) -> Reading
         code,
     };
     finish(s, next, frame)
-}
-
-pub fn write_create_response(w: Writer, out: &mut [u8], correlation_id: u64, code: u64) -> Writer
-    ensures { λ r. ⌜ ((src : List ℕ) → state r (now (out .exit)) ≡ stepLayout 0x800d 1 src (number «correlation_id» ∷ number code ∷ []) (state w (now (out .entry)))) ⌝ }
-{
-    let w = write_head(w, out, 0x800d, 1);
-    let w = write_u32(w, out, correlation_id);
-    write_u16(w, out, code)
 }
 
 // c T
@@ -110,20 +72,6 @@ pub fn read_delete(s: &[u8]) -> Reading
     finish(s, next, frame)
 }
 
-pub fn write_delete(
-    w: Writer,
-    src: &[u8],
-    out: &mut [u8],
-    correlation_id: u64,
-    stream: Place,
-) -> Writer
-    ensures { λ r. ⌜ state r (now (out .exit)) ≡ stepLayout 0x000e 1 (now (src .entry)) (number «correlation_id» ∷ placeField stream ∷ []) (state w (now (out .entry))) ⌝ }
-{
-    let w = write_head(w, out, 0x000e, 1);
-    let w = write_u32(w, out, correlation_id);
-    write_string(w, src, out, Form::Text, stream)
-}
-
 // c rc
 pub fn read_delete_response(s: &[u8]) -> Reading
     ensures { λ r. ⌜ answerOf r ≡ readLayout 0x800e 1 (now (s .entry)) ⌝ }
@@ -142,14 +90,6 @@ pub fn read_delete_response(s: &[u8]) -> Reading
     finish(s, next, frame)
 }
 
-pub fn write_delete_response(w: Writer, out: &mut [u8], correlation_id: u64, code: u64) -> Writer
-    ensures { λ r. ⌜ ((src : List ℕ) → state r (now (out .exit)) ≡ stepLayout 0x800e 1 src (number «correlation_id» ∷ number code ∷ []) (state w (now (out .entry)))) ⌝ }
-{
-    let w = write_head(w, out, 0x800e, 1);
-    let w = write_u32(w, out, correlation_id);
-    write_u16(w, out, code)
-}
-
 // c [T]
 pub fn read_metadata(s: &[u8]) -> Reading
     ensures { λ r. ⌜ answerOf r ≡ readLayout 0x000f 1 (now (s .entry)) ⌝ }
@@ -166,20 +106,6 @@ pub fn read_metadata(s: &[u8]) -> Reading
         streams,
     };
     finish(s, next, frame)
-}
-
-pub fn write_metadata(
-    w: Writer,
-    src: &[u8],
-    out: &mut [u8],
-    correlation_id: u64,
-    streams: Elements,
-) -> Writer
-    ensures { λ r. ⌜ state r (now (out .exit)) ≡ stepLayout 0x000f 1 (now (src .entry)) (number «correlation_id» ∷ listField streams ∷ []) (state w (now (out .entry))) ⌝ }
-{
-    let w = write_head(w, out, 0x000f, 1);
-    let w = write_u32(w, out, correlation_id);
-    write_list(w, src, out, Element::Name, streams)
 }
 
 // c [u16 T u32] [T u16 u16 [u16]]
@@ -204,22 +130,6 @@ pub fn read_metadata_response(s: &[u8]) -> Reading
     finish(s, next, frame)
 }
 
-pub fn write_metadata_response(
-    w: Writer,
-    src: &[u8],
-    out: &mut [u8],
-    correlation_id: u64,
-    brokers: Elements,
-    streams: Elements,
-) -> Writer
-    ensures { λ r. ⌜ state r (now (out .exit)) ≡ stepLayout 0x800f 1 (now (src .entry)) (number «correlation_id» ∷ listField brokers ∷ listField streams ∷ []) (state w (now (out .entry))) ⌝ }
-{
-    let w = write_head(w, out, 0x800f, 1);
-    let w = write_u32(w, out, correlation_id);
-    let w = write_list(w, src, out, Element::Broker, brokers);
-    write_list(w, src, out, Element::StreamMetadata, streams)
-}
-
 // u16 T
 pub fn read_metadata_update(s: &[u8]) -> Reading
     ensures { λ r. ⌜ answerOf r ≡ readLayout 0x0010 1 (now (s .entry)) ⌝ }
@@ -233,20 +143,6 @@ pub fn read_metadata_update(s: &[u8]) -> Reading
     let next = read.next;
     let frame = Frame::MetadataUpdate { code, stream };
     finish(s, next, frame)
-}
-
-pub fn write_metadata_update(
-    w: Writer,
-    src: &[u8],
-    out: &mut [u8],
-    code: u64,
-    stream: Place,
-) -> Writer
-    ensures { λ r. ⌜ state r (now (out .exit)) ≡ stepLayout 0x0010 1 (now (src .entry)) (number code ∷ placeField stream ∷ []) (state w (now (out .entry))) ⌝ }
-{
-    let w = write_head(w, out, 0x0010, 1);
-    let w = write_u16(w, out, code);
-    write_string(w, src, out, Form::Text, stream)
 }
 
 // c T T
@@ -271,22 +167,6 @@ pub fn read_route(s: &[u8]) -> Reading
     finish(s, next, frame)
 }
 
-pub fn write_route(
-    w: Writer,
-    src: &[u8],
-    out: &mut [u8],
-    correlation_id: u64,
-    routing_key: Place,
-    super_stream: Place,
-) -> Writer
-    ensures { λ r. ⌜ state r (now (out .exit)) ≡ stepLayout 0x0018 1 (now (src .entry)) (number «correlation_id» ∷ placeField «routing_key» ∷ placeField «super_stream» ∷ []) (state w (now (out .entry))) ⌝ }
-{
-    let w = write_head(w, out, 0x0018, 1);
-    let w = write_u32(w, out, correlation_id);
-    let w = write_string(w, src, out, Form::Text, routing_key);
-    write_string(w, src, out, Form::Text, super_stream)
-}
-
 // c rc [T]
 pub fn read_route_response(s: &[u8]) -> Reading
     ensures { λ r. ⌜ answerOf r ≡ readLayout 0x8018 1 (now (s .entry)) ⌝ }
@@ -309,22 +189,6 @@ pub fn read_route_response(s: &[u8]) -> Reading
     finish(s, next, frame)
 }
 
-pub fn write_route_response(
-    w: Writer,
-    src: &[u8],
-    out: &mut [u8],
-    correlation_id: u64,
-    code: u64,
-    streams: Elements,
-) -> Writer
-    ensures { λ r. ⌜ state r (now (out .exit)) ≡ stepLayout 0x8018 1 (now (src .entry)) (number «correlation_id» ∷ number code ∷ listField streams ∷ []) (state w (now (out .entry))) ⌝ }
-{
-    let w = write_head(w, out, 0x8018, 1);
-    let w = write_u32(w, out, correlation_id);
-    let w = write_u16(w, out, code);
-    write_list(w, src, out, Element::Name, streams)
-}
-
 // c T
 pub fn read_partitions(s: &[u8]) -> Reading
     ensures { λ r. ⌜ answerOf r ≡ readLayout 0x0019 1 (now (s .entry)) ⌝ }
@@ -341,20 +205,6 @@ pub fn read_partitions(s: &[u8]) -> Reading
         super_stream,
     };
     finish(s, next, frame)
-}
-
-pub fn write_partitions(
-    w: Writer,
-    src: &[u8],
-    out: &mut [u8],
-    correlation_id: u64,
-    super_stream: Place,
-) -> Writer
-    ensures { λ r. ⌜ state r (now (out .exit)) ≡ stepLayout 0x0019 1 (now (src .entry)) (number «correlation_id» ∷ placeField «super_stream» ∷ []) (state w (now (out .entry))) ⌝ }
-{
-    let w = write_head(w, out, 0x0019, 1);
-    let w = write_u32(w, out, correlation_id);
-    write_string(w, src, out, Form::Text, super_stream)
 }
 
 // c rc [T]
@@ -379,22 +229,6 @@ pub fn read_partitions_response(s: &[u8]) -> Reading
     finish(s, next, frame)
 }
 
-pub fn write_partitions_response(
-    w: Writer,
-    src: &[u8],
-    out: &mut [u8],
-    correlation_id: u64,
-    code: u64,
-    streams: Elements,
-) -> Writer
-    ensures { λ r. ⌜ state r (now (out .exit)) ≡ stepLayout 0x8019 1 (now (src .entry)) (number «correlation_id» ∷ number code ∷ listField streams ∷ []) (state w (now (out .entry))) ⌝ }
-{
-    let w = write_head(w, out, 0x8019, 1);
-    let w = write_u32(w, out, correlation_id);
-    let w = write_u16(w, out, code);
-    write_list(w, src, out, Element::Name, streams)
-}
-
 // c T
 pub fn read_stream_stats(s: &[u8]) -> Reading
     ensures { λ r. ⌜ answerOf r ≡ readLayout 0x001c 1 (now (s .entry)) ⌝ }
@@ -411,20 +245,6 @@ pub fn read_stream_stats(s: &[u8]) -> Reading
         stream,
     };
     finish(s, next, frame)
-}
-
-pub fn write_stream_stats(
-    w: Writer,
-    src: &[u8],
-    out: &mut [u8],
-    correlation_id: u64,
-    stream: Place,
-) -> Writer
-    ensures { λ r. ⌜ state r (now (out .exit)) ≡ stepLayout 0x001c 1 (now (src .entry)) (number «correlation_id» ∷ placeField stream ∷ []) (state w (now (out .entry))) ⌝ }
-{
-    let w = write_head(w, out, 0x001c, 1);
-    let w = write_u32(w, out, correlation_id);
-    write_string(w, src, out, Form::Text, stream)
 }
 
 // c rc [T i64]
@@ -447,22 +267,6 @@ pub fn read_stream_stats_response(s: &[u8]) -> Reading
         statistics,
     };
     finish(s, next, frame)
-}
-
-pub fn write_stream_stats_response(
-    w: Writer,
-    src: &[u8],
-    out: &mut [u8],
-    correlation_id: u64,
-    code: u64,
-    statistics: Elements,
-) -> Writer
-    ensures { λ r. ⌜ state r (now (out .exit)) ≡ stepLayout 0x801c 1 (now (src .entry)) (number «correlation_id» ∷ number code ∷ listField statistics ∷ []) (state w (now (out .entry))) ⌝ }
-{
-    let w = write_head(w, out, 0x801c, 1);
-    let w = write_u32(w, out, correlation_id);
-    let w = write_u16(w, out, code);
-    write_list(w, src, out, Element::Statistic, statistics)
 }
 
 // c T [T] [T] [T T]
@@ -495,26 +299,6 @@ pub fn read_create_super_stream(s: &[u8]) -> Reading
     finish(s, next, frame)
 }
 
-pub fn write_create_super_stream(
-    w: Writer,
-    src: &[u8],
-    out: &mut [u8],
-    correlation_id: u64,
-    name: Place,
-    partitions: Elements,
-    binding_keys: Elements,
-    arguments: Elements,
-) -> Writer
-    ensures { λ r. ⌜ state r (now (out .exit)) ≡ stepLayout 0x001d 1 (now (src .entry)) (number «correlation_id» ∷ placeField name ∷ listField partitions ∷ listField «binding_keys» ∷ listField arguments ∷ []) (state w (now (out .entry))) ⌝ }
-{
-    let w = write_head(w, out, 0x001d, 1);
-    let w = write_u32(w, out, correlation_id);
-    let w = write_string(w, src, out, Form::Text, name);
-    let w = write_list(w, src, out, Element::Name, partitions);
-    let w = write_list(w, src, out, Element::Name, binding_keys);
-    write_list(w, src, out, Element::Property, arguments)
-}
-
 // c rc
 pub fn read_create_super_stream_response(s: &[u8]) -> Reading
     ensures { λ r. ⌜ answerOf r ≡ readLayout 0x801d 1 (now (s .entry)) ⌝ }
@@ -531,19 +315,6 @@ pub fn read_create_super_stream_response(s: &[u8]) -> Reading
         code,
     };
     finish(s, next, frame)
-}
-
-pub fn write_create_super_stream_response(
-    w: Writer,
-    out: &mut [u8],
-    correlation_id: u64,
-    code: u64,
-) -> Writer
-    ensures { λ r. ⌜ ((src : List ℕ) → state r (now (out .exit)) ≡ stepLayout 0x801d 1 src (number «correlation_id» ∷ number code ∷ []) (state w (now (out .entry)))) ⌝ }
-{
-    let w = write_head(w, out, 0x801d, 1);
-    let w = write_u32(w, out, correlation_id);
-    write_u16(w, out, code)
 }
 
 // c T
@@ -564,20 +335,6 @@ pub fn read_delete_super_stream(s: &[u8]) -> Reading
     finish(s, next, frame)
 }
 
-pub fn write_delete_super_stream(
-    w: Writer,
-    src: &[u8],
-    out: &mut [u8],
-    correlation_id: u64,
-    name: Place,
-) -> Writer
-    ensures { λ r. ⌜ state r (now (out .exit)) ≡ stepLayout 0x001e 1 (now (src .entry)) (number «correlation_id» ∷ placeField name ∷ []) (state w (now (out .entry))) ⌝ }
-{
-    let w = write_head(w, out, 0x001e, 1);
-    let w = write_u32(w, out, correlation_id);
-    write_string(w, src, out, Form::Text, name)
-}
-
 // c rc
 pub fn read_delete_super_stream_response(s: &[u8]) -> Reading
     ensures { λ r. ⌜ answerOf r ≡ readLayout 0x801e 1 (now (s .entry)) ⌝ }
@@ -594,17 +351,4 @@ pub fn read_delete_super_stream_response(s: &[u8]) -> Reading
         code,
     };
     finish(s, next, frame)
-}
-
-pub fn write_delete_super_stream_response(
-    w: Writer,
-    out: &mut [u8],
-    correlation_id: u64,
-    code: u64,
-) -> Writer
-    ensures { λ r. ⌜ ((src : List ℕ) → state r (now (out .exit)) ≡ stepLayout 0x801e 1 src (number «correlation_id» ∷ number code ∷ []) (state w (now (out .entry)))) ⌝ }
-{
-    let w = write_head(w, out, 0x801e, 1);
-    let w = write_u32(w, out, correlation_id);
-    write_u16(w, out, code)
 }

@@ -1,4 +1,4 @@
-// Reading and writing what publishers send and consumers get, field by field in wire order.
+// Reading what publishers send and consumers get, field by field in wire order.
 mod consuming;
 mod publishing;
 
@@ -15,19 +15,6 @@ pub use consuming::read_subscribe;
 pub use consuming::read_subscribe_response;
 pub use consuming::read_unsubscribe;
 pub use consuming::read_unsubscribe_response;
-pub use consuming::write_consumer_update;
-pub use consuming::write_consumer_update_response;
-pub use consuming::write_credit;
-pub use consuming::write_credit_response;
-pub use consuming::write_deliver;
-pub use consuming::write_deliver_v2;
-pub use consuming::write_query_offset;
-pub use consuming::write_query_offset_response;
-pub use consuming::write_store_offset;
-pub use consuming::write_subscribe;
-pub use consuming::write_subscribe_response;
-pub use consuming::write_unsubscribe;
-pub use consuming::write_unsubscribe_response;
 pub use publishing::read_declare_publisher;
 pub use publishing::read_declare_publisher_response;
 pub use publishing::read_delete_publisher;
@@ -38,13 +25,3 @@ pub use publishing::read_publish_error;
 pub use publishing::read_publish_v2;
 pub use publishing::read_query_publisher;
 pub use publishing::read_query_publisher_response;
-pub use publishing::write_declare_publisher;
-pub use publishing::write_declare_publisher_response;
-pub use publishing::write_delete_publisher;
-pub use publishing::write_delete_publisher_response;
-pub use publishing::write_publish;
-pub use publishing::write_publish_confirm;
-pub use publishing::write_publish_error;
-pub use publishing::write_publish_v2;
-pub use publishing::write_query_publisher;
-pub use publishing::write_query_publisher_response;

@@ -1,15 +1,8 @@
 // Publishers and what they send.
-ghost use mathlib.Core.List.{List, [], _∷_};
 ghost use mathlib.Core.Path.{_≡_};
-ghost use Prim.Native.Nat.{ℕ};
-ghost use Rattle.protocol.specs.Fields.{number};
-ghost use Rattle.protocol.specs.Frames.{listField, nullableField, placeField};
 ghost use Rattle.rules.specs.Reading.{readLayout};
-ghost use Rattle.fields.specs.Writer.{state};
 ghost use Rattle.layouts.specs.Answer.{answerOf};
-ghost use Rattle.layouts.specs.Content.{stepLayout};
 use fields::Cursor;
-use fields::Writer;
 use fields::code_field;
 use fields::list_field;
 use fields::nullable_field;
@@ -17,22 +10,11 @@ use fields::string_field;
 use fields::u8_field;
 use fields::u32_field;
 use fields::u64_field;
-use fields::write_list;
-use fields::write_nullable;
-use fields::write_string;
-use fields::write_u8;
-use fields::write_u16;
-use fields::write_u32;
-use fields::write_u64;
 use layouts::Reading;
 use layouts::finish;
-use layouts::write_head;
 use protocol::Element;
-use protocol::Elements;
 use protocol::Form;
 use protocol::Frame;
-use protocol::NullablePlace;
-use protocol::Place;
 
 // c u8 R? T
 pub fn read_declare_publisher(s: &[u8]) -> Reading
@@ -60,24 +42,6 @@ pub fn read_declare_publisher(s: &[u8]) -> Reading
     finish(s, next, frame)
 }
 
-pub fn write_declare_publisher(
-    w: Writer,
-    src: &[u8],
-    out: &mut [u8],
-    correlation_id: u64,
-    publisher_id: u64,
-    reference: NullablePlace,
-    stream: Place,
-) -> Writer
-    ensures { λ r. ⌜ state r (now (out .exit)) ≡ stepLayout 0x0001 1 (now (src .entry)) (number «correlation_id» ∷ number «publisher_id» ∷ nullableField reference ∷ placeField stream ∷ []) (state w (now (out .entry))) ⌝ }
-{
-    let w = write_head(w, out, 0x0001, 1);
-    let w = write_u32(w, out, correlation_id);
-    let w = write_u8(w, out, publisher_id);
-    let w = write_nullable(w, src, out, Form::Reference, reference);
-    write_string(w, src, out, Form::Text, stream)
-}
-
 // c rc
 pub fn read_declare_publisher_response(s: &[u8]) -> Reading
     ensures { λ r. ⌜ answerOf r ≡ readLayout 0x8001 1 (now (s .entry)) ⌝ }
@@ -94,19 +58,6 @@ pub fn read_declare_publisher_response(s: &[u8]) -> Reading
         code,
     };
     finish(s, next, frame)
-}
-
-pub fn write_declare_publisher_response(
-    w: Writer,
-    out: &mut [u8],
-    correlation_id: u64,
-    code: u64,
-) -> Writer
-    ensures { λ r. ⌜ ((src : List ℕ) → state r (now (out .exit)) ≡ stepLayout 0x8001 1 src (number «correlation_id» ∷ number code ∷ []) (state w (now (out .entry)))) ⌝ }
-{
-    let w = write_head(w, out, 0x8001, 1);
-    let w = write_u32(w, out, correlation_id);
-    write_u16(w, out, code)
 }
 
 // u8 [u64 B]
@@ -127,20 +78,6 @@ pub fn read_publish(s: &[u8]) -> Reading
     finish(s, next, frame)
 }
 
-pub fn write_publish(
-    w: Writer,
-    src: &[u8],
-    out: &mut [u8],
-    publisher_id: u64,
-    messages: Elements,
-) -> Writer
-    ensures { λ r. ⌜ state r (now (out .exit)) ≡ stepLayout 0x0002 1 (now (src .entry)) (number «publisher_id» ∷ listField messages ∷ []) (state w (now (out .entry))) ⌝ }
-{
-    let w = write_head(w, out, 0x0002, 1);
-    let w = write_u8(w, out, publisher_id);
-    write_list(w, src, out, Element::Message, messages)
-}
-
 // u8 [u64 T? B]
 pub fn read_publish_v2(s: &[u8]) -> Reading
     ensures { λ r. ⌜ answerOf r ≡ readLayout 0x0002 2 (now (s .entry)) ⌝ }
@@ -157,20 +94,6 @@ pub fn read_publish_v2(s: &[u8]) -> Reading
         messages,
     };
     finish(s, next, frame)
-}
-
-pub fn write_publish_v2(
-    w: Writer,
-    src: &[u8],
-    out: &mut [u8],
-    publisher_id: u64,
-    messages: Elements,
-) -> Writer
-    ensures { λ r. ⌜ state r (now (out .exit)) ≡ stepLayout 0x0002 2 (now (src .entry)) (number «publisher_id» ∷ listField messages ∷ []) (state w (now (out .entry))) ⌝ }
-{
-    let w = write_head(w, out, 0x0002, 2);
-    let w = write_u8(w, out, publisher_id);
-    write_list(w, src, out, Element::FilteredMessage, messages)
 }
 
 // u8 [u64]
@@ -191,20 +114,6 @@ pub fn read_publish_confirm(s: &[u8]) -> Reading
     finish(s, next, frame)
 }
 
-pub fn write_publish_confirm(
-    w: Writer,
-    src: &[u8],
-    out: &mut [u8],
-    publisher_id: u64,
-    publishing_ids: Elements,
-) -> Writer
-    ensures { λ r. ⌜ state r (now (out .exit)) ≡ stepLayout 0x0003 1 (now (src .entry)) (number «publisher_id» ∷ listField «publishing_ids» ∷ []) (state w (now (out .entry))) ⌝ }
-{
-    let w = write_head(w, out, 0x0003, 1);
-    let w = write_u8(w, out, publisher_id);
-    write_list(w, src, out, Element::PublishingId, publishing_ids)
-}
-
 // u8 [u64 u16]
 pub fn read_publish_error(s: &[u8]) -> Reading
     ensures { λ r. ⌜ answerOf r ≡ readLayout 0x0004 1 (now (s .entry)) ⌝ }
@@ -221,20 +130,6 @@ pub fn read_publish_error(s: &[u8]) -> Reading
         errors,
     };
     finish(s, next, frame)
-}
-
-pub fn write_publish_error(
-    w: Writer,
-    src: &[u8],
-    out: &mut [u8],
-    publisher_id: u64,
-    errors: Elements,
-) -> Writer
-    ensures { λ r. ⌜ state r (now (out .exit)) ≡ stepLayout 0x0004 1 (now (src .entry)) (number «publisher_id» ∷ listField errors ∷ []) (state w (now (out .entry))) ⌝ }
-{
-    let w = write_head(w, out, 0x0004, 1);
-    let w = write_u8(w, out, publisher_id);
-    write_list(w, src, out, Element::PublishingError, errors)
 }
 
 // c R T
@@ -259,22 +154,6 @@ pub fn read_query_publisher(s: &[u8]) -> Reading
     finish(s, next, frame)
 }
 
-pub fn write_query_publisher(
-    w: Writer,
-    src: &[u8],
-    out: &mut [u8],
-    correlation_id: u64,
-    reference: Place,
-    stream: Place,
-) -> Writer
-    ensures { λ r. ⌜ state r (now (out .exit)) ≡ stepLayout 0x0005 1 (now (src .entry)) (number «correlation_id» ∷ placeField reference ∷ placeField stream ∷ []) (state w (now (out .entry))) ⌝ }
-{
-    let w = write_head(w, out, 0x0005, 1);
-    let w = write_u32(w, out, correlation_id);
-    let w = write_string(w, src, out, Form::Reference, reference);
-    write_string(w, src, out, Form::Text, stream)
-}
-
 // c rc u64
 pub fn read_query_publisher_response(s: &[u8]) -> Reading
     ensures { λ r. ⌜ answerOf r ≡ readLayout 0x8005 1 (now (s .entry)) ⌝ }
@@ -297,21 +176,6 @@ pub fn read_query_publisher_response(s: &[u8]) -> Reading
     finish(s, next, frame)
 }
 
-pub fn write_query_publisher_response(
-    w: Writer,
-    out: &mut [u8],
-    correlation_id: u64,
-    code: u64,
-    sequence: u64,
-) -> Writer
-    ensures { λ r. ⌜ ((src : List ℕ) → state r (now (out .exit)) ≡ stepLayout 0x8005 1 src (number «correlation_id» ∷ number code ∷ number sequence ∷ []) (state w (now (out .entry)))) ⌝ }
-{
-    let w = write_head(w, out, 0x8005, 1);
-    let w = write_u32(w, out, correlation_id);
-    let w = write_u16(w, out, code);
-    write_u64(w, out, sequence)
-}
-
 // c u8
 pub fn read_delete_publisher(s: &[u8]) -> Reading
     ensures { λ r. ⌜ answerOf r ≡ readLayout 0x0006 1 (now (s .entry)) ⌝ }
@@ -330,19 +194,6 @@ pub fn read_delete_publisher(s: &[u8]) -> Reading
     finish(s, next, frame)
 }
 
-pub fn write_delete_publisher(
-    w: Writer,
-    out: &mut [u8],
-    correlation_id: u64,
-    publisher_id: u64,
-) -> Writer
-    ensures { λ r. ⌜ ((src : List ℕ) → state r (now (out .exit)) ≡ stepLayout 0x0006 1 src (number «correlation_id» ∷ number «publisher_id» ∷ []) (state w (now (out .entry)))) ⌝ }
-{
-    let w = write_head(w, out, 0x0006, 1);
-    let w = write_u32(w, out, correlation_id);
-    write_u8(w, out, publisher_id)
-}
-
 // c rc
 pub fn read_delete_publisher_response(s: &[u8]) -> Reading
     ensures { λ r. ⌜ answerOf r ≡ readLayout 0x8006 1 (now (s .entry)) ⌝ }
@@ -359,17 +210,4 @@ pub fn read_delete_publisher_response(s: &[u8]) -> Reading
         code,
     };
     finish(s, next, frame)
-}
-
-pub fn write_delete_publisher_response(
-    w: Writer,
-    out: &mut [u8],
-    correlation_id: u64,
-    code: u64,
-) -> Writer
-    ensures { λ r. ⌜ ((src : List ℕ) → state r (now (out .exit)) ≡ stepLayout 0x8006 1 src (number «correlation_id» ∷ number code ∷ []) (state w (now (out .entry)))) ⌝ }
-{
-    let w = write_head(w, out, 0x8006, 1);
-    let w = write_u32(w, out, correlation_id);
-    write_u16(w, out, code)
 }

@@ -1,9 +1,10 @@
 -- A frame, and an element of a list, as numbers in a fixed array of slots: what a host that is written in C reads and
 -- writes. A frame has twenty-four slots, an element eight, and those that no field takes are 0.
-use mathlib.Core.Bool.{cond}
+use mathlib.Core.Bool.{Bool, true, false, cond}
 use mathlib.Core.List.{List, [], _∷_, _++_}
 use mathlib.Core.Option.{Option, none, some}
 use Prim.Native.Nat.{ℕ, _-_}
+use lib.Dec.{eqb}
 use lib.IntN.{ℤ}
 use lib.ListN.{length, replicate}
 use Rattle.wire.specs.Signed as two's
@@ -27,9 +28,17 @@ flatPlace p = p .at ∷ p .len ∷ []
 abbrev pub nullLength : ℕ
 nullLength = 18446744073709551615
 
-abbrev pub flatOctets : Option Place → List ℕ
-flatOctets none = 0 ∷ nullLength ∷ []
-flatOctets (some p) = flatPlace p
+-- The length of what may be null and is not. No slice is as long as the length that stands for null, so a place of that
+-- length stands as one of a byte less: the writer refuses both alike.
+abbrev pub notNull : ℕ → ℕ
+notNull len = cond (eqb len nullLength) 18446744073709551614 len
+
+-- A text or byte string, by whether it may be null.
+abbrev pub flatOctets : Bool → Option Place → List ℕ
+flatOctets false none = 0 ∷ nullLength ∷ []
+flatOctets false (some p) = flatPlace p
+flatOctets true none = 0 ∷ nullLength ∷ []
+flatOctets true (some p) = p .at ∷ notNull (p .len) ∷ []
 
 -- The type, and the value: 0 where it has none.
 abbrev pub flatOffset : OffsetSpecification → List ℕ
@@ -62,7 +71,7 @@ flatHeader h =
 abbrev pub flatField : Kind → Field Place → List ℕ
 flatField (unsigned n most) f = f .number ∷ []
 flatField (signed n) f = bits (f .integer) ∷ []
-flatField (string form nullable) f = flatOctets (f .octets)
+flatField (string form nullable) f = flatOctets nullable (f .octets)
 flatField (specification admitsNone) f = flatOffset (f .offset)
 flatField (list row) f = f .number ∷ flatPlace (placeOf (f .octets))
 flatField chunk f = flatHeader (f .header) ++ flatPlace (placeOf (f .octets))

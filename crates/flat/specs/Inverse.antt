@@ -18,47 +18,64 @@ use Rattle.rules.specs.Writing.{writeFrame}
 use Rattle.flat.specs.Flat.{nullLength, flatFrame}
 use Rattle.flat.specs.Unflat.{unflatFrame, writeFlat}
 
--- A field that slots can hold: signed numbers have 64 bits, only what may be null is null, and no place of what may be
--- null has the length that stands for it. No slice is so long, so this leaves out no frame that could be written.
-abbrev pub HeldOctets : Bool → Option Place → Type 0
-HeldOctets false none = ⊥
-HeldOctets false (some p) = Unit
-HeldOctets true none = Unit
-HeldOctets true (some p) = p .len ≡ nullLength → ⊥
+-- Signed numbers of 64 bits, as the code's types have them.
+abbrev pub SignedOffset : OffsetSpecification → Type 0
+SignedOffset None = Unit
+SignedOffset First = Unit
+SignedOffset Last = Unit
+SignedOffset Next = Unit
+SignedOffset (Offset x) = Unit
+SignedOffset (Timestamp z) = two's.Signed 8 z
 
-abbrev pub HeldOffset : OffsetSpecification → Type 0
-HeldOffset None = Unit
-HeldOffset First = Unit
-HeldOffset Last = Unit
-HeldOffset Next = Unit
-HeldOffset (Offset x) = Unit
-HeldOffset (Timestamp z) = two's.Signed 8 z
-
-pub record HeldHeader (h : ChunkHeader) : Type 0 where
+pub record SignedHeader (h : ChunkHeader) : Type 0 where
   pub magic : two's.Signed 8 (h .magic)
   pub type : two's.Signed 8 (h .«chunk_type»)
   pub timestamp : two's.Signed 8 (h .timestamp)
   pub checksum : two's.Signed 8 (h .checksum)
 
-abbrev pub Held : Kind → Field Place → Type 0
-Held (unsigned n most) f = Unit
-Held (signed n) f = two's.Signed 8 (f .integer)
-Held (string form nullable) f = HeldOctets nullable (f .octets)
-Held (specification admitsNone) f = HeldOffset (f .offset)
-Held (list row) f = Unit
-Held chunk f = HeldHeader (f .header)
+abbrev pub SignedField : Kind → Field Place → Type 0
+SignedField (unsigned n most) f = Unit
+SignedField (signed n) f = two's.Signed 8 (f .integer)
+SignedField (string form nullable) f = Unit
+SignedField (specification admitsNone) f = SignedOffset (f .offset)
+SignedField (list row) f = Unit
+SignedField chunk f = SignedHeader (f .header)
 
-abbrev pub HeldRow : Row → List (Field Place) → Type 0
-HeldRow end fs = Unit
-HeldRow (kind · row) [] = Unit
-HeldRow (kind · row) (f ∷ fs) = Held kind f × HeldRow row fs
+abbrev pub SignedRow : Row → List (Field Place) → Type 0
+SignedRow end fs = Unit
+SignedRow (kind · row) [] = Unit
+SignedRow (kind · row) (f ∷ fs) = SignedField kind f × SignedRow row fs
 
-abbrev pub HeldFrame : Fields Place → Type 0
-HeldFrame f = HeldRow (rowOf (f .key) (f .version)) (f .content)
+abbrev pub SignedFrame : Fields Place → Type 0
+SignedFrame f = SignedRow (rowOf (f .key) (f .version)) (f .content)
 
--- A typed frame comes back from its slots, and writing its slots is writing it.
+-- Only what may be null is null, and no place of what may be null has the length that stands for it.
+abbrev pub ToldOctets : Bool → Option Place → Type 0
+ToldOctets false none = ⊥
+ToldOctets false (some p) = Unit
+ToldOctets true none = Unit
+ToldOctets true (some p) = p .len ≡ nullLength → ⊥
+
+abbrev pub ToldField : Kind → Field Place → Type 0
+ToldField (unsigned n most) f = Unit
+ToldField (signed n) f = Unit
+ToldField (string form nullable) f = ToldOctets nullable (f .octets)
+ToldField (specification admitsNone) f = Unit
+ToldField (list row) f = Unit
+ToldField chunk f = Unit
+
+abbrev pub ToldRow : Row → List (Field Place) → Type 0
+ToldRow end fs = Unit
+ToldRow (kind · row) [] = Unit
+ToldRow (kind · row) (f ∷ fs) = ToldField kind f × ToldRow row fs
+
+abbrev pub ToldFrame : Fields Place → Type 0
+ToldFrame f = ToldRow (rowOf (f .key) (f .version)) (f .content)
+
+-- A typed frame comes back from its slots.
 abbrev pub FlatInverse : Type 0
-FlatInverse = (f : Frame) → HeldFrame (fieldsOf f) → unflatFrame (flatFrame (fieldsOf f)) ≡ fieldsOf f
+FlatInverse = (f : Frame) → SignedFrame (fieldsOf f) → ToldFrame (fieldsOf f) → unflatFrame (flatFrame (fieldsOf f)) ≡ fieldsOf f
 
+-- Writing the slots of a typed frame is writing it.
 abbrev pub FlatWrites : Type 0
-FlatWrites = (f : Frame) → HeldFrame (fieldsOf f) → (src : List ℕ) (limit : ℕ) (out : List ℕ) → writeFlat (flatFrame (fieldsOf f)) src limit out ≡ writeFrame (fieldsOf f) src limit out
+FlatWrites = (f : Frame) → SignedFrame (fieldsOf f) → (src : List ℕ) (limit : ℕ) (out : List ℕ) → writeFlat (flatFrame (fieldsOf f)) src limit out ≡ writeFrame (fieldsOf f) src limit out

@@ -1,4 +1,5 @@
 // The slots of an element of a list: its fields in wire order.
+ghost use mathlib.Core.Bool.{true};
 ghost use mathlib.Core.List.{[], _∷_, _++_};
 ghost use mathlib.Core.Path.{_≡_};
 ghost use Rattle.protocol.specs.Frames.{nullableField};
@@ -65,7 +66,7 @@ fn message_slots(id: u64, p: Place) -> [u64; 8]
 }
 
 fn filtered_message(id: u64, filter: NullablePlace, p: Place) -> [u64; 8]
-    ensures { λ r. ⌜ r ≡ padded 8 (id ∷ flatOctets (nullableField filter .octets) ++ flatPlace p) ⌝ }
+    ensures { λ r. ⌜ r ≡ padded 8 (id ∷ flatOctets true (nullableField filter .octets) ++ flatPlace p) ⌝ }
 {
     let q = place_or_null(filter);
     [

@@ -3,6 +3,7 @@ ghost use mathlib.Core.Bool.{cond};
 ghost use mathlib.Core.Path.{_≡_};
 ghost use Rattle.protocol.specs.Frames.{fieldsOf};
 ghost use Rattle.flat.specs.Flat.{flatFrame};
+ghost use Rattle.flat.specs.Inverse.{SignedFrame};
 use crate::slots::headed;
 use crate::slots::number;
 use crate::slots::number_chunk;
@@ -27,6 +28,7 @@ use protocol::Frame;
 
 pub fn frame_slots(frame: Frame) -> [u64; 24]
     ensures { λ r. ⌜ r ≡ flatFrame (fieldsOf frame) ⌝ }
+    ensures { λ _. ⌜ SignedFrame (fieldsOf frame) ⌝ }
 {
     match frame {
         Frame::DeclarePublisher {

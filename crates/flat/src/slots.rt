@@ -1,9 +1,11 @@
 // The slots of a frame by the kinds of its fields: N a number, P a text or byte string, O one that may be null, S an offset
 // specification, L a list, C a chunk.
+ghost use mathlib.Core.Bool.{true};
 ghost use mathlib.Core.List.{[], _∷_, _++_};
 ghost use mathlib.Core.Path.{_≡_};
 ghost use Rattle.protocol.specs.Frames.{nullableField};
-ghost use Rattle.flat.specs.Flat.{bits, flatHeader, flatOctets, flatOffset, flatPlace, padded};
+ghost use Rattle.flat.specs.Flat.{bits, flatHeader, flatOctets, flatOffset, flatPlace, notNull, padded};
+ghost use Rattle.flat.specs.Inverse.{SignedHeader, SignedOffset};
 use protocol::Chunk;
 use protocol::ChunkHeader;
 use protocol::Elements;
@@ -91,7 +93,7 @@ pub fn texts_number(key: u64, version: u64, p: Place, q: Place, a: u64) -> [u64;
 
 // N P O
 pub fn number_text_nullable(key: u64, version: u64, a: u64, p: Place, o: NullablePlace) -> [u64; 24]
-    ensures { λ r. ⌜ r ≡ padded 24 (key ∷ version ∷ a ∷ flatPlace p ++ flatOctets (nullableField o .octets) ++ []) ⌝ }
+    ensures { λ r. ⌜ r ≡ padded 24 (key ∷ version ∷ a ∷ flatPlace p ++ flatOctets true (nullableField o .octets) ++ []) ⌝ }
 {
     number_texts(key, version, a, p, place_or_null(o))
 }
@@ -108,7 +110,7 @@ pub fn numbers_text(key: u64, version: u64, a: u64, b: u64, p: Place) -> [u64; 2
 
 // N N O
 pub fn numbers_nullable(key: u64, version: u64, a: u64, b: u64, o: NullablePlace) -> [u64; 24]
-    ensures { λ r. ⌜ r ≡ padded 24 (key ∷ version ∷ a ∷ b ∷ flatOctets (nullableField o .octets) ++ []) ⌝ }
+    ensures { λ r. ⌜ r ≡ padded 24 (key ∷ version ∷ a ∷ b ∷ flatOctets true (nullableField o .octets) ++ []) ⌝ }
 {
     numbers_text(key, version, a, b, place_or_null(o))
 }
@@ -122,7 +124,7 @@ pub fn numbers_nullable_text(
     o: NullablePlace,
     p: Place,
 ) -> [u64; 24]
-    ensures { λ r. ⌜ r ≡ padded 24 (key ∷ version ∷ a ∷ b ∷ flatOctets (nullableField o .octets) ++ flatPlace p) ⌝ }
+    ensures { λ r. ⌜ r ≡ padded 24 (key ∷ version ∷ a ∷ b ∷ flatOctets true (nullableField o .octets) ++ flatPlace p) ⌝ }
 {
     let o = place_or_null(o);
     let mut slots = numbers_text(key, version, a, b, o);
@@ -200,6 +202,7 @@ pub fn number_text_lists(
 // N N S
 pub fn numbers_offset(key: u64, version: u64, a: u64, b: u64, s: OffsetSpecification) -> [u64; 24]
     ensures { λ r. ⌜ r ≡ padded 24 (key ∷ version ∷ a ∷ b ∷ flatOffset s ++ []) ⌝ }
+    ensures { λ _. ⌜ SignedOffset s ⌝ }
 {
     let s = flat_offset(s);
     let mut slots = three_numbers(key, version, a, b, s.kind);
@@ -219,6 +222,7 @@ pub fn subscribe(
     l: Elements,
 ) -> [u64; 24]
     ensures { λ r. ⌜ r ≡ padded 24 (key ∷ version ∷ a ∷ b ∷ flatPlace p ++ flatOffset s ++ c ∷ l .count ∷ flatPlace (l .place)) ⌝ }
+    ensures { λ _. ⌜ SignedOffset s ⌝ }
 {
     let s = flat_offset(s);
     let q = l.place;
@@ -235,6 +239,7 @@ pub fn subscribe(
 // N C
 pub fn number_chunk(key: u64, version: u64, a: u64, chunk: Chunk) -> [u64; 24]
     ensures { λ r. ⌜ r ≡ padded 24 (key ∷ version ∷ a ∷ flatHeader (chunk .header) ++ flatPlace (chunk .«data»)) ⌝ }
+    ensures { λ _. ⌜ SignedHeader (chunk .header) ⌝ }
 {
     let header = chunk.header;
     let data = chunk.data;
@@ -270,6 +275,7 @@ pub fn number_chunk(key: u64, version: u64, a: u64, chunk: Chunk) -> [u64; 24]
 // N N C
 pub fn numbers_chunk(key: u64, version: u64, a: u64, b: u64, chunk: Chunk) -> [u64; 24]
     ensures { λ r. ⌜ r ≡ padded 24 (key ∷ version ∷ a ∷ b ∷ flatHeader (chunk .header) ++ flatPlace (chunk .«data»)) ⌝ }
+    ensures { λ _. ⌜ SignedHeader (chunk .header) ⌝ }
 {
     let header = chunk.header;
     let data = chunk.data;
@@ -304,20 +310,33 @@ pub fn numbers_chunk(key: u64, version: u64, a: u64, b: u64, chunk: Chunk) -> [u
 
 // A null as a place: 0, with a length that no place has.
 pub fn place_or_null(o: NullablePlace) -> Place
-    ensures { λ r. ⌜ flatPlace r ≡ flatOctets (nullableField o .octets) ⌝ }
+    ensures { λ r. ⌜ flatPlace r ≡ flatOctets true (nullableField o .octets) ⌝ }
 {
     match o {
         NullablePlace::Null => Place {
             at: 0,
             len: NULL_LENGTH,
         },
-        NullablePlace::At(place) => place,
+        NullablePlace::At(place) => not_null(place),
     }
+}
+
+fn not_null(place: Place) -> Place
+    ensures { λ r. ⌜ flatPlace r ≡ place .at ∷ notNull (place .len) ∷ [] ⌝ }
+{
+    if place.len == NULL_LENGTH {
+        return Place {
+            at: place.at,
+            len: NULL_LENGTH - 1,
+        };
+    }
+    place
 }
 
 // The type, and the value: 0 where it has none.
 fn flat_offset(s: OffsetSpecification) -> FlatOffset
     ensures { λ r. ⌜ r .kind ∷ r .value ∷ [] ≡ flatOffset s ⌝ }
+    ensures { λ _. ⌜ SignedOffset s ⌝ }
 {
     match s {
         OffsetSpecification::None => FlatOffset { kind: 0, value: 0 },
@@ -338,6 +357,7 @@ fn flat_offset(s: OffsetSpecification) -> FlatOffset
 // The header's twelve numbers, then the place of the data.
 fn flat_chunk(header: ChunkHeader, data: Place) -> [u64; 14]
     ensures { λ r. ⌜ r ≡ flatHeader header ++ flatPlace «data» ⌝ }
+    ensures { λ _. ⌜ SignedHeader header ⌝ }
 {
     let magic = bits8(header.magic);
     let chunk_type = bits8(header.chunk_type);

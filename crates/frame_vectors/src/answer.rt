@@ -3,9 +3,9 @@ ghost use Prim.Native.Nat.{_≤_};
 ghost use mathlib.Core.Path.{_≡_};
 ghost use mathlib.Core.Bool.{cond};
 ghost use lib.ListN.{length};
-use crate::shown;
 use crate::text;
 use fields::Cursor;
+use flat::frame_slots;
 use layouts::Reading;
 use protocol::Frame;
 
@@ -37,11 +37,34 @@ pub fn longer(name: &[u8], limit: u32, bytes: &[u8]) {
     }
 }
 
+// The frame's length, and its slots.
 fn accepted(bytes: &[u8], frame: Frame) {
+    let slots = frame_slots(frame);
     text::word(b" frame");
-    head(bytes);
-    shown::fields(frame);
+    text::decimal(total(bytes));
+    text::hex(slots[0], 4);
+    numbers(&slots[1..24]);
     text::word(b"\n");
+}
+
+fn numbers(slots: &[u64]) {
+    for i in 0..used(slots) {
+        text::decimal(slots[i]);
+    }
+}
+
+// How many there are without the zeros behind the last one that is not 0.
+fn used(slots: &[u64]) -> usize
+    ensures { λ r. ⌜ r ≤ length (now (slots .entry)) ⌝ }
+{
+    let mut n = slots.len();
+    while n > 0 {
+        if slots[n - 1] != 0 {
+            return n;
+        }
+        n -= 1;
+    }
+    0
 }
 
 fn short(needed: u64) {
@@ -56,15 +79,6 @@ fn refused(number: u8, place: usize) {
     text::word(b" at");
     text::decimal(place as u64);
     text::word(b"\n");
-}
-
-// Key, version and length.
-fn head(bytes: &[u8]) {
-    let key = fields::u16_field(bytes, Cursor::within(4));
-    let version = fields::u16_field(bytes, Cursor::within(6));
-    text::hex(key.value as u64, 4);
-    text::decimal(version.value as u64);
-    text::decimal(total(bytes));
 }
 
 // The length that a frame's Size gives.

@@ -1,9 +1,4 @@
-// Reading and writing whole frames.
-mod limit;
+// Reading whole frames.
 mod reading;
-mod writing;
 
-pub use limit::over_limit;
 pub use reading::read;
-pub use writing::Written;
-pub use writing::write;

@@ -15,9 +15,9 @@ use Rattle.rules.proofs.Gives.{choice}
 use Rattle.rules.proofs.Listed.{differ}
 use Rattle.rules.specs.Reading.{overLimit}
 use Rattle.rules.specs.Writing.{Encoding, wrote, refuse, Writing, writeRow, writeEncoded, writeDecided, writeFrame}
-use Rattle.frames.specs.Written.{writingOf}
-use Rattle.frames.specs.declared.writing.Written.{Written}
-use Rattle.frames.specs.declared.writing.Written.the-variants.{Length, Refused}
+use Rattle.frame_writing.specs.Written.{writingOf}
+use Rattle.frame_writing.specs.declared.writing.Written.{Written}
+use Rattle.frame_writing.specs.declared.writing.Written.the-variants.{Length, Refused}
 use Rattle.rules.specs.Writing as writing
 use Rattle.flat.specs.Unflat.{unflatFrame, writeFlat}
 use Rattle.fast_writing.specs.Answer.{WritesAs}

@@ -4,7 +4,7 @@ ghost use Rattle.flat.specs.Unflat.{writeFlat};
 ghost use Rattle.krevilosh.specs.Answer.{writtenNumber};
 use crate::packed;
 use fast_writing::Fast;
-use frames::Written;
+use frame_writing::Written;
 
 // The flat frame, whose places are in the source, to the start of out, under a frame limit. What the fast writer leaves, the
 // writer that knows every layout and every refusal writes.
@@ -29,7 +29,7 @@ fn write_any(frame: &[u64; 24], source: &[u8], limit: u32, out: &mut [u8]) -> u6
     ensures { λ r. ⌜ r ≡ writtenNumber (writeFlat (now (frame .entry)) (now (source .entry)) limit (now (out .entry)) .answer) ⌝ }
     ensures { λ _. ⌜ now (out .exit) ≡ writeFlat (now (frame .entry)) (now (source .entry)) limit (now (out .entry)) .out ⌝ }
 {
-    match flat_writing::write(&frame[..], source, limit, out) {
+    match frame_writing::write_slots(&frame[..], source, limit, out) {
         Written::Length(length) => packed(0, length),
         Written::Refused(number) => number as u64,
     }

@@ -1,5 +1,5 @@
 -- A content whose fields were read one behind another is read as its row says: the cursor behind the last field tells
--- the row's outcome. One whose fields were written so is written as its row says. Assumes nothing.
+-- the row's outcome. Assumes nothing.
 use mathlib.Core.Path.{_≡_, refl, _∙_, sym, ap, subst}
 use mathlib.Core.Bool.{Bool, true, false, cond}
 use mathlib.Core.List.{List, map}
@@ -19,10 +19,7 @@ use Rattle.rules.specs.Reading.{Reading, frame, refusal, readingOf, readRow, re
 use Rattle.fields.proofs.Chains.{Chain, Arrived, whole, stopped, arrive}
 use Rattle.fields.specs.Cursor.{cursor}
 use Rattle.fields.specs.declared.cursor.Cursor.{Cursor}
-use Rattle.fields.proofs.Steps.{Steps, row-written}
-use Rattle.fields.specs.Writer.{State, stepRow}
 use Rattle.layouts.specs.Answer.{finished, placeOf}
-use Rattle.layouts.specs.Content.{stepHead, stepLayout}
 
 under : ℕ → ℕ → List (Field Place) → Fields Place
 under k v fs = record { key = k; version = v; content = fs }
@@ -47,7 +44,3 @@ unfolding readLayout readContent behind under
 whole-content {s} {row} {fs} {c} {e} k v r i ch =
     let a : Arrived 8 fs e (readRow row s 0) = subst (λ (d : Cursor). (Chain s row d fs e → Arrived 8 fs e (readRow row s 0))) (sym i) (λ h. arrive h refl) ch in
     rw r (ended k v s fs (readRow row s 0) e (bounded-row row s 0) a)
-
-pub layout-written : {src : List ℕ} {row : Row} {fs : List (Field Place)} {t u : State} (k v : ℕ) (s : State) → rowOf k v ≡ row → t ≡ stepHead k v s → Steps src row fs t u → u ≡ stepLayout k v src fs s
-unfolding stepLayout
-layout-written {src} {row} {fs} k v s r h ch = rw r (row-written ch ∙ ap (stepRow row src fs) h)

@@ -1,3 +1,2 @@
 -- What the answers of reading stand for.
 pub mod Answer
-pub mod Content

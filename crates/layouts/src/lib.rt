@@ -1,7 +1,7 @@
-// What all layouts share: the answer of a read, and what stands in front of every content.
+// What all layouts share: the answer of a read, and the frame limit.
+mod limit;
 mod reading;
-mod writing;
 
+pub use limit::over_limit;
 pub use reading::Reading;
 pub use reading::finish;
-pub use writing::write_head;

@@ -2,7 +2,7 @@
 ghost use Prim.Native.Nat.{_≤_};
 ghost use lib.ListN.{length};
 use crate::text;
-use frames::Written;
+use frame_writing::Written;
 use layouts::Reading;
 use protocol::Frame;
 
@@ -39,7 +39,7 @@ fn written(s: &[u8], frame: Frame) -> usize
 {
     let mut space = io::large_buffer();
     let out: &mut [u8] = &mut space;
-    match frames::write(frame, s, 0, out) {
+    match frame_writing::write(frame, s, 0, out) {
         Written::Length(n) => compared(s, out, n as usize),
         Written::Refused(_) => 0,
     }

@@ -8,6 +8,7 @@ use mir.Syntax.{w8, w32, w64}
 use Rattle.protocol.specs.declared.chunk.ChunkHeader.{ChunkHeader}
 use Rattle.protocol.specs.declared.place.Place.{Place}
 use Rattle.flat.specs.Flat.{bits, flatHeader, flatPlace}
+use Rattle.flat.proofs.Widening.{bits-64}
 use borrow.Author.Needs.{needs}
 use Rattle.flat.proofs.slots.flat_chunk.Statement.{statement}
 use Rattle.flat.proofs.slots.flat_chunk.Tie as tie
@@ -29,4 +30,13 @@ flat-chunk-spec =
     (λ c. fits-32-64 (c .struct-known4 .given .1 .1 .1 .1 .1 .1 .1 .1 .1 .0))
     (λ c. fits-8-64 (c .struct-known5 .given .1 .1 .1 .1 .1 .1 .1 .1 .1 .1 .0))
     (λ c. fits-32-64 (c .struct-known6 .given .1 .1 .1 .1 .1 .1 .1 .1 .1 .1 .1 .0))
-    (λ c. header-slots (c .before .before .before .before .before .before .before .before .before .before .before .before .before .before .args .header) (c .before .before .before .before .before .before .before .before .before .before .before .before .before .before .args .«data») _ _ _ _ (c .before .before .before .before .before .before .before .before .before .before .before .before .bits8 .ensures ∙ ap bits (toZ-ofZ {w = w8} (sfits-of (c .before .before .before .before .before .before .before .before .before .before .before .before .before .struct-told .given .0 .1)))) (c .before .before .before .before .before .before .before .before .before .before .bits82 .ensures ∙ ap bits (toZ-ofZ {w = w8} (sfits-of (c .before .before .before .before .before .before .before .before .before .before .before .struct-told2 .given .1 .0 .1)))) (c .before .before .before .before .before .before .before .before .unsigned64 .ensures ∙ ap bits (toZ-ofZ {w = w64} (sfits-of (c .before .before .before .before .before .before .before .before .before .struct-told3 .given .1 .1 .1 .1 .0 .1)))) (c .before .before .before .before .before .before .bits32 .ensures ∙ ap bits (toZ-ofZ {w = w32} (sfits-of (c .before .before .before .before .before .before .before .struct-told4 .given .1 .1 .1 .1 .1 .1 .1 .0 .1))))))
+    (λ c.
+    let checksum = c .before .before .before .before .before .before in
+    let timestamp = checksum .before .before in
+    let type = timestamp .before .before in
+    let magic = type .before .before in
+    let m = sfits-of (magic .before .struct-told .given .0 .1) in
+    let t = sfits-of (type .before .struct-told2 .given .1 .0 .1) in
+    let s = sfits-of (timestamp .before .struct-told3 .given .1 .1 .1 .1 .0 .1) in
+    let k = sfits-of (checksum .before .struct-told4 .given .1 .1 .1 .1 .1 .1 .1 .0 .1) in
+    (header-slots (magic .before .before .args .header) (magic .before .before .args .«data») _ _ _ _ (magic .bits8 .ensures ∙ ap bits (toZ-ofZ {w = w8} m)) (type .bits82 .ensures ∙ ap bits (toZ-ofZ {w = w8} t)) (timestamp .unsigned64 .ensures ∙ ap bits (toZ-ofZ {w = w64} s)) (checksum .bits32 .ensures ∙ ap bits (toZ-ofZ {w = w32} k)), record { magic = bits-64 {w = w8} tt m; type = bits-64 {w = w8} tt t; timestamp = bits-64 {w = w64} tt s; checksum = bits-64 {w = w32} tt k })))

@@ -16,4 +16,4 @@ numbers-offset-spec =
     (λ c κs. search needs)
     (λ c κs. search needs)
     (λ c. search needs)
-    (λ c. ap (λ (t : List ℕ). set t 5 (c .before .flat-offset .result .value)) (c .three-numbers .ensures) ∙ ap (λ (t : List ℕ). padded 24 (c .before .before .args .key ∷ c .before .before .args .version ∷ c .before .before .args .a ∷ c .before .before .args .b ∷ t ++ [])) (c .before .flat-offset .ensures)))
+    (λ c. (ap (λ (t : List ℕ). set t 5 (c .before .flat-offset .result .value)) (c .three-numbers .ensures) ∙ ap (λ (t : List ℕ). padded 24 (c .before .before .args .key ∷ c .before .before .args .version ∷ c .before .before .args .a ∷ c .before .before .args .b ∷ t ++ [])) (c .before .flat-offset .ensures .0), c .before .flat-offset .ensures .1)))

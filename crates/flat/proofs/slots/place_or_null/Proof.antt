@@ -1,5 +1,6 @@
 -- By the case.
-use mathlib.Core.Path.{sym, ap}
+use mathlib.Core.Bool.{true}
+use mathlib.Core.Path.{_∙_, sym, ap}
 use Rattle.protocol.specs.Frames.{nullableField}
 use Rattle.protocol.specs.declared.place.NullablePlace.{NullablePlace}
 use Rattle.flat.specs.Flat.{flatOctets}
@@ -13,5 +14,6 @@ place-or-null-spec =
     (tie.spec
     (λ c. search needs)
     (λ c. search needs)
-    (λ c. sym (ap (λ (x : NullablePlace). flatOctets (nullableField x .octets)) (c .enum-told .given .1)))
-    (λ c. sym (ap (λ (x : NullablePlace). flatOctets (nullableField x .octets)) (c .before .o .given .1))))
+    (λ c κs. search needs)
+    (λ c. sym (ap (λ (x : NullablePlace). flatOctets true (nullableField x .octets)) (c .enum-told .given .1)))
+    (λ c. c .not-null .ensures ∙ sym (ap (λ (x : NullablePlace). flatOctets true (nullableField x .octets)) (c .before .before .o .given .1))))

@@ -19,6 +19,6 @@ put-reading-spec =
     (λ c κs. fits-above _ (subst (λ (r : Reading). NeededFits (answerOf r)) (c .before .reading2 .given .1) (c .before .before .before .pre)))
     (λ c. search needs)
     (λ c. search needs)
-    (λ c. (sym (ap (λ (r : Reading). readNumber (answerOf r)) (c .before .before .reading .given .1)), c .frame-slots .ensures ∙ sym (ap (λ (r : Reading). readSlots (now (c .before .before .before .before .args .slots)) (answerOf r)) (c .before .before .reading .given .1))))
+    (λ c. (sym (ap (λ (r : Reading). readNumber (answerOf r)) (c .before .before .reading .given .1)), c .frame-slots .ensures .0 ∙ sym (ap (λ (r : Reading). readSlots (now (c .before .before .before .before .args .slots)) (answerOf r)) (c .before .before .reading .given .1))))
     (λ c. (c .packed .ensures ∙ sym (ap (λ (r : Reading). readNumber (answerOf r)) (c .before .before .reading2 .given .1)), sym (ap (λ (r : Reading). readSlots (now (c .before .before .before .before .args .slots)) (answerOf r)) (c .before .before .reading2 .given .1))))
     (λ c. (sym (ap (λ (r : Reading). readNumber (answerOf r)) (c .before .reading3 .given .1)), sym (ap (λ (r : Reading). readSlots (now (c .before .before .before .args .slots)) (answerOf r)) (c .before .reading3 .given .1)))))

@@ -12,10 +12,10 @@ write-any-spec =
     (tie.spec
     (λ c κs. search needs)
     (λ c. search needs)
-    (λ c κs. let a = c .before .before .before .before .before .before .before .before .before .before .args in length-below _ _ _ (c .before .before .before .before .before .write .ensures) _ (now (a .frame)) (now (a .source)) (a .limit) (now (a .out)) (c .before .length .given .1) refl)
+    (λ c κs. let a = c .before .before .before .before .before .before .before .before .before .before .args in length-below _ _ _ (c .before .before .before .before .before .write-slots .ensures) _ (now (a .frame)) (now (a .source)) (a .limit) (now (a .out)) (c .before .length .given .1) refl)
     (λ c. search needs)
     (λ c. search needs)
     (λ c. c .before .before .before .before .before .out .given)
-    (λ c. length-told _ _ _ (c .before .before .before .before .before .before .write .ensures) _ _ (c .before .before .length .given .1) (c .packed .ensures))
+    (λ c. length-told _ _ _ (c .before .before .before .before .before .before .write-slots .ensures) _ _ (c .before .before .length .given .1) (c .packed .ensures))
     (λ c. c .before .before .before .before .out .given)
-    (λ c. refusal-told _ _ _ (c .before .before .before .before .before .write .ensures) _ (c .before .number .given .1)))
+    (λ c. refusal-told _ _ _ (c .before .before .before .before .before .write-slots .ensures) _ (c .before .number .given .1)))

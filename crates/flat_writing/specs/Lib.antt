@@ -1,3 +1,0 @@
--- Writing from slots.
-pub mod Row
-pub mod Narrow

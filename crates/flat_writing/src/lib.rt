@@ -1,7 +1,0 @@
-// Writing a frame from its slots.
-mod chunk;
-mod kinds;
-mod slots;
-mod writing;
-
-pub use writing::write;

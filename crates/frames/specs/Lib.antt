@@ -1,2 +1,0 @@
--- What the answers of writing stand for.
-pub mod Written
