@@ -379,7 +379,7 @@ fn is_text(src: &[u8], at: usize, len: usize, most: usize) -> bool
         return false;
     }
     let end = at + len;
-    wire::is_utf8(&src[at..end])
+    unicode::is_utf8(&src[at..end])
 }
 
 // The length in two bytes, then the text.

@@ -52,7 +52,7 @@ pub fn text_end(s: &[u8], at: usize) -> usize
             }
             let from = at + 2;
             let end = from + n as usize;
-            if !wire::is_utf8(&s[from..end]) {
+            if !unicode::is_utf8(&s[from..end]) {
                 return 0;
             }
             end

@@ -4,7 +4,7 @@ ghost use mathlib.Core.List.{[]};
 ghost use mathlib.Core.Option.{some};
 ghost use Prim.Native.Nat.{_+_, _≤_};
 ghost use lib.ListN.{length, take, drop};
-ghost use Rattle.wire.specs.Utf8.{utf8, ascii, first, next, expects};
+ghost use Rattle.unicode.specs.Utf8.{utf8, ascii, first, next, expects};
 
 // What has to follow in a character that has begun: `left` bytes, the first of them from `low` to `high`, the others
 // tail bytes. `left` is 0 between two characters, and WRONG once nothing can make the text right.

@@ -2,10 +2,10 @@
 use mathlib.Core.Path.{_≡_, sym}
 use native.Mathlib.Omega.{arith}
 use borrow.Author.Needs.{needs}
-use Rattle.wire.specs.Utf8.{expects}
-use Rattle.wire.proofs.Following.{after-e0, after-ed, after-f0, after-f4, one-byte, two-bytes, three-bytes, three-bytes-high, four-bytes, no-first-low, no-first-high}
-use Rattle.wire.proofs.utf8.after_first.Statement.{statement}
-use Rattle.wire.proofs.utf8.after_first.Tie as tie
+use Rattle.unicode.specs.Utf8.{expects}
+use Rattle.unicode.proofs.Following.{after-e0, after-ed, after-f0, after-f4, one-byte, two-bytes, three-bytes, three-bytes-high, four-bytes, no-first-low, no-first-high}
+use Rattle.unicode.proofs.utf8.after_first.Statement.{statement}
+use Rattle.unicode.proofs.utf8.after_first.Tie as tie
 
 pub after-first-spec : {M : Type 1} → statement M
 unfolding expects

@@ -1,8 +1,8 @@
 -- The four bytes, one after another.
 use borrow.Author.Needs.{needs}
-use Rattle.wire.proofs.Ascii.{four}
-use Rattle.wire.proofs.utf8.four_ascii.Statement.{statement}
-use Rattle.wire.proofs.utf8.four_ascii.Tie as tie
+use Rattle.unicode.proofs.Ascii.{four}
+use Rattle.unicode.proofs.utf8.four_ascii.Statement.{statement}
+use Rattle.unicode.proofs.utf8.four_ascii.Tie as tie
 
 pub four-ascii-spec : {M : Type 1} → statement M
 four-ascii-spec =

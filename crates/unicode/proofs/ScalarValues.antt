@@ -10,9 +10,9 @@ use native.Mathlib.Omega.{arith}
 use lib.Dec.{leb, ltb}
 use lib.ListN.{length, length-append}
 use borrow.Author.Tests.{lt-ltb, le-ltb, leb-true, leb-false, ltb-true, ltb-false}
-use Rattle.wire.specs.Utf8.{Range, _‥_, within, tail, first, next, following, whole, utf8}
-use Rattle.wire.specs.Unicode.{Scalar, character, encoded, Scalars, Unicode}
-use Rattle.wire.proofs.Following.{inside, after-e0, after-ed, after-f0, after-f4, one-byte, two-bytes, three-bytes, three-bytes-high, four-bytes, no-first-low, no-first-high}
+use Rattle.unicode.specs.Utf8.{Range, _‥_, within, tail, first, next, following, whole, utf8}
+use Rattle.unicode.specs.Unicode.{Scalar, character, encoded, Scalars, Unicode}
+use Rattle.unicode.proofs.Following.{inside, after-e0, after-ed, after-f0, after-f4, one-byte, two-bytes, three-bytes, three-bytes-high, four-bytes, no-first-low, no-first-high}
 
 by-test : {P : Type 0} (t : Bool) → (t ≡ true → P) → (t ≡ false → P) → P
 by-test true f g = f refl

@@ -2,10 +2,10 @@
 use native.Mathlib.Omega.{arith}
 use borrow.Author.Needs.{needs}
 use borrow.Author.Tests.{eq-eqb}
-use Rattle.wire.specs.Utf8.{expects}
-use Rattle.wire.proofs.Following.{above, below, out-of-range, in-range}
-use Rattle.wire.proofs.utf8.after_byte.Statement.{statement}
-use Rattle.wire.proofs.utf8.after_byte.Tie as tie
+use Rattle.unicode.specs.Utf8.{expects}
+use Rattle.unicode.proofs.Following.{above, below, out-of-range, in-range}
+use Rattle.unicode.proofs.utf8.after_byte.Statement.{statement}
+use Rattle.unicode.proofs.utf8.after_byte.Tie as tie
 
 dead : tie.Need-returns
 unfolding expects

@@ -5,7 +5,7 @@ use mathlib.Core.List.{List, [], _∷_, _++_}
 use mathlib.Core.Logic.{_⊎_, _↔_}
 use Prim.Native.Nat.{ℕ, _+_, _/_, _%_, _≤_}
 use lib.Dec.{ltb}
-use Rattle.wire.specs.Utf8.{utf8}
+use Rattle.unicode.specs.Utf8.{utf8}
 
 -- A Unicode scalar value: any character number but a surrogate.
 abbrev pub Scalar : ℕ → Type 0

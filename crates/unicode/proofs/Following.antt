@@ -10,8 +10,8 @@ use lib.Dec.{leb, eqb, eqb·suc-zero}
 use lib.ListN.{length, getD, drop, replicate, drop-of-length-le}
 use lib.Seq.{drop-cons}
 use borrow.Author.Tests.{le-leb, lt-leb, ne-eqb}
-use Rattle.wire.specs.Utf8.{Range, _‥_, within, tail, begun, characters, first, next, following, whole, utf8, ranges, expects}
-use Rattle.wire.specs.declared.utf8.Pending.{Pending}
+use Rattle.unicode.specs.Utf8.{Range, _‥_, within, tail, begun, characters, first, next, following, whole, utf8, ranges, expects}
+use Rattle.unicode.specs.declared.utf8.Pending.{Pending}
 
 pub inside : (low high b : ℕ) → low ≤ b → b ≤ high → within (low ‥ high) b ≡ true
 inside low high b p q = simp (le-leb low b p, le-leb b high q)

@@ -9,8 +9,8 @@ use lib.Dec.{ltb}
 use lib.ListN.{length, getD, take, drop, take-append-drop, length-drop}
 use lib.Seq.{drop-cons, take-add, drop-drop, take-take, take-all}
 use borrow.Author.Tests.{ltb-true, lt-ltb, le-ltb}
-use Rattle.wire.specs.Utf8.{following, whole, utf8, ascii}
-use Rattle.wire.proofs.Following.{one-byte}
+use Rattle.unicode.specs.Utf8.{following, whole, utf8, ascii}
+use Rattle.unicode.proofs.Following.{one-byte}
 
 ascii-append : (s t : List ℕ) → ascii (s ++ t) ≡ (ascii s && ascii t)
 unfolding ascii

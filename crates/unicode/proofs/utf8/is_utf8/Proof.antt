@@ -6,11 +6,11 @@ use mathlib.Core.Option.{some}
 use Prim.Native.Nat.{_≤_, _-_}
 use borrow.Author.Needs.{needs}
 use lib.ListN.{length, drop}
-use Rattle.wire.specs.Utf8.{following, expects}
-use Rattle.wire.proofs.Following.{start, turn, ended}
-use Rattle.wire.proofs.Ascii.{ascii-utf8}
-use Rattle.wire.proofs.utf8.is_utf8.Statement.{statement}
-use Rattle.wire.proofs.utf8.is_utf8.Tie as tie
+use Rattle.unicode.specs.Utf8.{following, expects}
+use Rattle.unicode.proofs.Following.{start, turn, ended}
+use Rattle.unicode.proofs.Ascii.{ascii-utf8}
+use Rattle.unicode.proofs.utf8.is_utf8.Statement.{statement}
+use Rattle.unicode.proofs.utf8.is_utf8.Tie as tie
 
 abbrev Inv-loop : tie.InvT-loop
 Inv-loop s p₀ i₀ p i = (i ≤ length s) × (following (some []) s ≡ following (expects p) (drop i s))

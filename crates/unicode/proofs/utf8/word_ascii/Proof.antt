@@ -1,8 +1,8 @@
 -- The eight bytes are four and four.
 use borrow.Author.Needs.{needs}
-use Rattle.wire.proofs.Ascii.{parts}
-use Rattle.wire.proofs.utf8.word_ascii.Statement.{statement}
-use Rattle.wire.proofs.utf8.word_ascii.Tie as tie
+use Rattle.unicode.proofs.Ascii.{parts}
+use Rattle.unicode.proofs.utf8.word_ascii.Statement.{statement}
+use Rattle.unicode.proofs.utf8.word_ascii.Tie as tie
 
 returns : tie.Need-returns
 returns c =

@@ -5,7 +5,7 @@ use mathlib.Core.Option.{Option, none, some}
 use Prim.Native.Nat.{ℕ, zero, suc}
 use lib.Dec.{leb, ltb, eqb}
 use lib.ListN.{replicate}
-use Rattle.wire.specs.declared.utf8.Pending.{Pending}
+use Rattle.unicode.specs.declared.utf8.Pending.{Pending}
 
 infix 70 _‥_
 -- The bytes from one to another, both included: `0xc2 ‥ 0xdf` is the ABNF's %xC2-DF.

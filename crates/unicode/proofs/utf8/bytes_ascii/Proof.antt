@@ -5,10 +5,10 @@ use Prim.Native.Nat.{_≤_, _-_}
 use borrow.Author.Needs.{needs}
 use lib.ListN.{length, take}
 use lib.Seq.{take-all}
-use Rattle.wire.specs.Utf8.{ascii}
-use Rattle.wire.proofs.Ascii.{is-ascii, is-not, turn, broken}
-use Rattle.wire.proofs.utf8.bytes_ascii.Statement.{statement}
-use Rattle.wire.proofs.utf8.bytes_ascii.Tie as tie
+use Rattle.unicode.specs.Utf8.{ascii}
+use Rattle.unicode.proofs.Ascii.{is-ascii, is-not, turn, broken}
+use Rattle.unicode.proofs.utf8.bytes_ascii.Statement.{statement}
+use Rattle.unicode.proofs.utf8.bytes_ascii.Tie as tie
 
 abbrev Inv-loop : tie.InvT-loop
 Inv-loop s i₀ i = (i ≤ length s) × (ascii (take i s) ≡ true)

@@ -6,10 +6,10 @@ use native.Mathlib.Omega.{arith}
 use borrow.Author.Needs.{needs}
 use borrow.Author.Tests.{not-true, not-false}
 use lib.ListN.{length, take}
-use Rattle.wire.specs.Utf8.{ascii}
-use Rattle.wire.proofs.Ascii.{turn, broken, ended}
-use Rattle.wire.proofs.utf8.is_ascii.Statement.{statement}
-use Rattle.wire.proofs.utf8.is_ascii.Tie as tie
+use Rattle.unicode.specs.Utf8.{ascii}
+use Rattle.unicode.proofs.Ascii.{turn, broken, ended}
+use Rattle.unicode.proofs.utf8.is_ascii.Statement.{statement}
+use Rattle.unicode.proofs.utf8.is_ascii.Tie as tie
 
 abbrev Inv-loop : tie.InvT-loop
 Inv-loop s n last i₀ i = ascii (take i s) ≡ true
