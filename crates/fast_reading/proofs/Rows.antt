@@ -12,7 +12,7 @@ use lib.ListN.{length, take, drop}
 use borrow.Author.Tests.{le-ltb, ltb-false}
 use Rattle.wire.specs.Integers.{Bytes, bigEndian}
 use Rattle.wire.specs.Signed.{signed}
-use Rattle.wire.specs.Utf8.{utf8}
+use Rattle.unicode.specs.Utf8.{utf8}
 use Rattle.wire.proofs.TwosComplement.{below-half}
 use Rattle.wire.proofs.Widths.{integers}
 use Rattle.protocol.specs.Fields.{Field, number, elements, place, overPlaces, further}

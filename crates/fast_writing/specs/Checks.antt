@@ -4,7 +4,7 @@ use mathlib.Core.Bool.{true, false}
 use mathlib.Core.List.{List}
 use Prim.Native.Nat.{ℕ, _+_, _<_, _≤_}
 use lib.ListN.{length, take, drop}
-use Rattle.wire.specs.Utf8.{utf8}
+use Rattle.unicode.specs.Utf8.{utf8}
 use Rattle.rules.specs.Reading.{overLimit}
 use Rattle.flat.specs.Unflat.{slot}
 

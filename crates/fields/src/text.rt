@@ -170,8 +170,8 @@ fn is_text(form: Form, b: &[u8]) -> bool
     ensures { λ r. ⌜ r ≡ isText form (now (b .entry)) ⌝ }
 {
     match form {
-        Form::Text => wire::is_utf8(b),
-        Form::Reference => wire::is_utf8(b),
+        Form::Text => unicode::is_utf8(b),
+        Form::Reference => unicode::is_utf8(b),
         Form::Bytes => true,
     }
 }

@@ -2,7 +2,7 @@
 use mathlib.Core.Path.{refl}
 use Rattle.wire.specs.Integers.{bigEndian}
 use Rattle.wire.specs.Signed.{signed}
-use Rattle.wire.specs.Utf8.{characters, begun, following}
+use Rattle.unicode.specs.Utf8.{characters, begun, following}
 use Rattle.protocol.specs.Decision.{versionsIn, ofVersion, decide}
 use Rattle.protocol.specs.Table.{table, rowIn}
 use Rattle.rules.specs.Outcome.{repeated}

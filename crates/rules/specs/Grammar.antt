@@ -10,7 +10,7 @@ use lib.IntN.{ℤ, pos}
 use lib.ListN.{length}
 use Rattle.wire.specs.Integers.{digits}
 use Rattle.wire.specs.Signed as two's
-use Rattle.wire.specs.Utf8.{utf8}
+use Rattle.unicode.specs.Utf8.{utf8}
 use Rattle.protocol.specs.Decision.{layout, decide}
 use Rattle.protocol.specs.Fields.{Field, Fields, number, integer, elements}
 use Rattle.protocol.specs.Fields as F

@@ -9,7 +9,7 @@ use lib.IntN.{ℤ, pos, negsuc}
 use lib.ListN.{length, take, drop}
 use Rattle.wire.specs.Integers.{bigEndian}
 use Rattle.wire.specs.Signed as two's
-use Rattle.wire.specs.Utf8.{utf8}
+use Rattle.unicode.specs.Utf8.{utf8}
 use Rattle.protocol.specs.Decision.{Decision, layout, unlistedKey, unlistedVersion, decide}
 use Rattle.protocol.specs.Fields.{Field, Fields, number, integer, elements, place, overPlaces, further}
 use Rattle.protocol.specs.Fields as F

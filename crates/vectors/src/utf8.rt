@@ -61,7 +61,7 @@ fn passes(lead: u8, len: usize, k: usize) -> bool {
 
 fn first_pass(text: &[u8], len: usize) -> bool {
     if len <= text.len() {
-        wire::is_utf8(&text[0..len])
+        unicode::is_utf8(&text[0..len])
     } else {
         false
     }

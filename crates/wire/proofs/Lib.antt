@@ -3,6 +3,3 @@ pub mod Widths
 pub mod TwosComplement
 pub mod Casts
 pub mod Splice
-pub mod Following
-pub mod Ascii
-pub mod ScalarValues

@@ -1,9 +1,8 @@
-// The primitives of the wire: big-endian integers, signed integers, UTF-8, and bytes put into a lent buffer.
+// The primitives of the wire: big-endian integers, signed integers, and bytes put into a lent buffer.
 // No function here has a `requires`: each answers for any slice, any place and any number.
 mod buffer;
 mod integers;
 mod signed;
-mod utf8;
 
 pub use buffer::put_bytes;
 pub use integers::Number;
@@ -16,4 +15,3 @@ pub use signed::signed64;
 pub use signed::unsigned8;
 pub use signed::unsigned32;
 pub use signed::unsigned64;
-pub use utf8::is_utf8;
