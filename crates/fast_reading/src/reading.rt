@@ -11,9 +11,9 @@ ghost use Rattle.flat.specs.Flat.{bits};
 ghost use Rattle.fast_reading.specs.Answer.{ReadsAs};
 ghost use Rattle.fast_reading.specs.Chunk.{OpenIf, chunkAt};
 use chunks::entries_end;
-use fields::messages_end;
-use fields::properties_end;
 use fields::text_end;
+use lists::messages_end;
+use lists::properties_end;
 use wire::Width;
 
 // The frame at the start of the bytes, under a frame limit; 0 is no limit.

@@ -14,8 +14,8 @@ ghost use Rattle.fast_writing.specs.Answer.{WritesAs, writeRowOf};
 ghost use Rattle.fast_writing.specs.Checks.{Fits, IsPart, IsText, IsHeader, IsWide};
 ghost use Rattle.fast_writing.specs.Puts.{halves, putSlots};
 use chunks::entries_end;
-use fields::messages_end;
-use fields::properties_end;
+use lists::messages_end;
+use lists::properties_end;
 use wire::Width;
 
 pub enum Fast {

@@ -3,31 +3,24 @@ use mathlib.Core.Path.{_≡_, _∙_, ap}
 use mathlib.Core.Bool.{Bool, true, false}
 use mathlib.Core.List.{List, [], _++_}
 use mathlib.Core.Option.{some}
-use Prim.Native.Nat.{ℕ, _+_, _-_, _/_, _^_, _<_, _≤_}
+use Prim.Native.Nat.{ℕ, _/_, _^_, _<_, _≤_}
 use native.Mathlib.Omega.{arith}
 use lib.Dec.{lit≤}
 use lib.IntN.{ℤ, pos, negsuc}
-use lib.ListN.{take, drop}
-use borrow.Author.Tests.{lt-ltb, le-ltb, lt-leb, le-leb, ltb-false}
+use borrow.Author.Tests.{lt-ltb, le-ltb, lt-leb, le-leb}
 use Rattle.wire.specs.Integers.{digits}
 use Rattle.protocol.specs.Fields.{bytesAt, outside}
 use Rattle.protocol.specs.Fields as F
-use Rattle.protocol.specs.Kinds.{Row, lengthWidth, specification}
-use Rattle.protocol.specs.Refusals.{fieldCut, badLength, notUtf8, referenceTooLong, valueNotAdmitted, bytesLeft}
+use Rattle.protocol.specs.Kinds.{lengthWidth, specification}
+use Rattle.protocol.specs.Refusals.{fieldCut, badLength, notUtf8, referenceTooLong, valueNotAdmitted}
 use Rattle.protocol.specs.declared.kind.Form.{Form}
 use Rattle.protocol.specs.declared.kind.Form.the-variants.{Text, Reference, Bytes}
 use Rattle.protocol.specs.declared.place.Place.{Place}
-use Rattle.rules.specs.Outcome.{refused}
-use Rattle.rules.specs.Reading.{tooLong, isText, readRow}
+use Rattle.rules.specs.Reading.{tooLong, isText}
 use Rattle.protocol.specs.declared.offset.OffsetSpecification.the-variants.{None, Offset, Timestamp}
-use Rattle.rules.specs.Writing.{wrote, refuse, fitsSigned, writeUnsigned, writeString, writeOffset, writeList}
+use Rattle.rules.specs.Writing.{wrote, refuse, fitsSigned, writeUnsigned, writeString, writeOffset}
 use Rattle.wire.specs.Signed as two's
-use Rattle.rules.proofs.Bounds.{numbered-row}
-use Rattle.fields.specs.Cursor.{cursor}
 use Rattle.fields.specs.Writer.{State, behind, step, stepField}
-use Rattle.fields.specs.declared.cursor.Cursor.{Cursor}
-use Rattle.fields.proofs.Loops.{ends}
-use Rattle.fields.proofs.Parts.{pieces-refused, pieces-left, pieces-used}
 use mir.Syntax.{Width}
 use mir.Val.{SFits, hbits}
 
@@ -96,27 +89,3 @@ module _ (form : Form) (nullable : Bool) (src : List ℕ) (p : Place) where
         pub string-bytes : isText form (bytesAt src p) ≡ true → writeString form nullable src (some p) ≡ wrote (digits (lengthWidth form) (p .len) ++ bytesAt src p)
         unfolding writeString
         string-bytes u = rw (lt-leb _ _ h, t, o, u)
-
--- A list.
-module _ (row : Row) (src : List ℕ) (n : ℕ) (p : Place) where
-  pub list-over : 0x8000_0000 ≤ n → writeList row src n p ≡ refuse badLength
-  unfolding writeList
-  list-over h = rw (le-leb _ _ h)
-
-  module _ (h : n < 0x8000_0000) where
-    pub list-outside : outside p src ≡ true → writeList row src n p ≡ refuse fieldCut
-    unfolding writeList
-    list-outside o = rw (lt-leb _ _ h, o)
-
-    module _ (o : outside p src ≡ false) (start c : Cursor) (b : start ≡ cursor 0 0 0) (e : c ≡ ends (readRow row) n (take (p .at + p .len - p .at) (drop (p .at) src)) start) where
-      pub list-refused : (c .refused ≡ 0 → ⊥) → writeList row src n p ≡ refuse (c .refused)
-      unfolding writeList
-      list-refused z = rw (lt-leb _ _ h, o) (pieces-refused (readRow row) (numbered-row row) n src p start c b e (wrote (digits 4 n ++ bytesAt src p)) z)
-
-      pub list-left : c .refused ≡ 0 → c .at < p .len → writeList row src n p ≡ refuse bytesLeft
-      unfolding writeList
-      list-left z l = rw (lt-leb _ _ h, o) (pieces-left (readRow row) (numbered-row row) n src p start c b e (wrote (digits 4 n ++ bytesAt src p)) z (ltb-false _ _ o) l)
-
-      pub list-bytes : c .refused ≡ 0 → p .len ≤ c .at → writeList row src n p ≡ wrote (digits 4 n ++ bytesAt src p)
-      unfolding writeList
-      list-bytes z l = rw (lt-leb _ _ h, o) (pieces-used (readRow row) (numbered-row row) n src p start c b e (wrote (digits 4 n ++ bytesAt src p)) z (ltb-false _ _ o) l)

@@ -5,9 +5,7 @@ pub mod StringFields
 pub mod OffsetFields
 pub mod Chains
 pub mod Loops
-pub mod FixedWidth
 pub mod PlainEnds
-pub mod ListFields
 pub mod Steps
 pub mod Parts
 pub mod Encodings

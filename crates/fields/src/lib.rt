@@ -1,12 +1,8 @@
-// A reader for each kind of field, on a part of the caller's bytes and a cursor in it; and a writer for each kind that a
-// frame has.
+// A reader for each kind of single field, that is numbers, byte strings and offset specifications, on a part of the
+// caller's bytes and a cursor in it; and a writer for each kind that a frame has.
 
-mod count;
 mod cursor;
-mod element;
 mod ends;
-mod fixed;
-mod list;
 mod number;
 mod offset;
 mod source;
@@ -14,16 +10,8 @@ mod text;
 mod writer;
 
 pub use cursor::Cursor;
-pub use element::skip_element;
 pub use ends::bytes_end;
-pub use ends::elements_end;
-pub use ends::messages_end;
-pub use ends::properties_end;
 pub use ends::text_end;
-pub use list::ReadList;
-pub use list::list_field;
-pub use list::skip_elements;
-pub use list::write_list;
 pub use number::ReadCode;
 pub use number::ReadFlag;
 pub use number::ReadI64;

@@ -15,7 +15,7 @@ use Rattle.protocol.specs.Kinds.{elementRow}
 use Rattle.rules.specs.Outcome.{repeated, Outcome}
 use Rattle.fields.specs.Ends.{endOf}
 use Rattle.protocol.specs.declared.kind.Element.the-variants.{PublishingId}
-use Rattle.fields.proofs.FixedWidth.{of-width, repeated-read}
+use Rattle.lists.proofs.FixedWidth.{of-width, repeated-read}
 use Rattle.fast_reading.proofs.Rows.{reads, done, link, unsigned-read, list-read}
 use borrow.Author.Needs.{needs}
 use Rattle.fast_reading.proofs.reading.publish_confirm.Statement.{statement}

@@ -1,0 +1,5 @@
+-- Lemmas that belong to no one function.
+pub mod FixedWidth
+pub mod ElementEnds
+pub mod ListFields
+pub mod ListWriting

@@ -1,0 +1,13 @@
+-- Its fields one behind another are the row.
+use Rattle.fields.proofs.Chains.{done, link, landing}
+use borrow.Author.Needs.{needs}
+use Rattle.lists.proofs.element.message.Statement.{statement}
+use Rattle.lists.proofs.element.message.Tie as tie
+
+pub message-spec : {M : Type 1} → statement M
+message-spec =
+    tie.close
+    (tie.spec
+    (λ c κs. search needs)
+    (λ c κs. search needs)
+    (λ c. landing (link (c .before .before .before .u64-field .ensures) (link (c .before .string-field .ensures) done))))

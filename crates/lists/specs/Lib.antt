@@ -1,0 +1,2 @@
+-- Elements whose end is known from their count.
+pub mod Fixed
