@@ -1,20 +1,16 @@
--- Which typed frames are Delivers, case by case, and that a Deliver's id is one byte: it is read as one. Assumes nothing.
-use Prim.Native.Nat.{ℕ, _<_}
-use mathlib.Core.Path.{_≡_, refl, sym, ap, _∙_, subst}
+-- Which typed frames are Delivers, case by case. Assumes nothing.
+use Prim.Native.Nat.{ℕ}
+use mathlib.Core.Path.{_≡_, refl, sym, ap, _∙_}
 use mathlib.Core.Logic.{_↔_, _⊎_, inl, inr}
-use mathlib.Core.List.{List, [], _∷_}
 use mathlib.Core.Option.{Option, none, some}
 use native.Mathlib.Omega.{arith}
-use types.Run.{OneOf, miss}
-use denote.Enum.Declared.{tagOf}
 use Rattle.protocol.specs.Frames.{fieldsOf}
 use Rattle.protocol.specs.declared.frame.Frame.{Frame}
 use Rattle.protocol.specs.declared.frame.Frame.the-variants.{DeclarePublisher, Publish, PublishV2, PublishConfirm, PublishError, QueryPublisher, DeletePublisher, Subscribe, Deliver, DeliverV2, Credit, StoreOffset, QueryOffset, Unsubscribe, Create, Delete, Metadata, MetadataUpdate, PeerProperties, SaslHandshake, SaslAuthenticate, Tune, Open, Close, Heartbeat, Route, Partitions, ConsumerUpdate, ExchangeCommandVersions, StreamStats, CreateSuperStream, DeleteSuperStream, DeclarePublisherResponse, QueryPublisherResponse, DeletePublisherResponse, SubscribeResponse, CreditResponse, QueryOffsetResponse, UnsubscribeResponse, CreateResponse, DeleteResponse, MetadataResponse, PeerPropertiesResponse, SaslHandshakeResponse, SaslAuthenticateResponse, TuneResponse, OpenResponse, CloseResponse, RouteResponse, PartitionsResponse, ConsumerUpdateResponse, ExchangeCommandVersionsResponse, StreamStatsResponse, CreateSuperStreamResponse, DeleteSuperStreamResponse}
-use Rattle.protocol.proofs.frame.Frame.{the-type}
 use Rattle.credit.specs.Calls.{deliverId}
 use Rattle.credit.specs.Demand3.{DeliverFor}
 
-frame-kind : (f : Frame) → (none ≡ deliverId (fieldsOf f)) ⊎ ((i : ℕ) × DeliverFor i f)
+pub frame-kind : (f : Frame) → (none ≡ deliverId (fieldsOf f)) ⊎ ((i : ℕ) × DeliverFor i f)
 frame-kind (DeclarePublisher _ _ _ _) = inl refl
 frame-kind (Publish _ _) = inl refl
 frame-kind (PublishV2 _ _) = inl refl
@@ -70,18 +66,6 @@ frame-kind (ExchangeCommandVersionsResponse _ _ _) = inl refl
 frame-kind (StreamStatsResponse _ _ _) = inl refl
 frame-kind (CreateSuperStreamResponse _ _) = inl refl
 frame-kind (DeleteSuperStreamResponse _ _) = inl refl
-
--- The tags of the other frames.
-abbrev others : List ℕ
-others = 0 ∷ 1 ∷ 2 ∷ 3 ∷ 4 ∷ 5 ∷ 6 ∷ 7 ∷ 10 ∷ 11 ∷ 12 ∷ 13 ∷ 14 ∷ 15 ∷ 16 ∷ 17 ∷ 18 ∷ 19 ∷ 20 ∷ 21 ∷ 22 ∷ 23 ∷ 24 ∷ 25 ∷ 26 ∷ 27 ∷ 28 ∷ 29 ∷ 30 ∷ 31 ∷ 32 ∷ 33 ∷ 34 ∷ 35 ∷ 36 ∷ 37 ∷ 38 ∷ 39 ∷ 40 ∷ 41 ∷ 42 ∷ 43 ∷ 44 ∷ 45 ∷ 46 ∷ 47 ∷ 48 ∷ 49 ∷ 50 ∷ 51 ∷ 52 ∷ 53 ∷ 54 ∷ []
-
-pub not-deliver : (f : Frame) → OneOf others (tagOf the-type f) → none ≡ deliverId (fieldsOf f)
-not-deliver f k = by (frame-kind f)
-  where
-    by : (none ≡ deliverId (fieldsOf f)) ⊎ ((i : ℕ) × DeliverFor i f) → none ≡ deliverId (fieldsOf f)
-    by (inl e) = e
-    by (inr (i, inl (c, e))) = absurd (miss others 8 tt (subst (λ (g : Frame). OneOf others (tagOf the-type g)) e k))
-    by (inr (i, inr (n, c, e))) = absurd (miss others 9 tt (subst (λ (g : Frame). OneOf others (tagOf the-type g)) e k))
 
 pub are-delivers : (f : Frame) (i : ℕ) → (deliverId (fieldsOf f) ≡ some i) ↔ DeliverFor i f
 are-delivers f i = (to (frame-kind f), from)

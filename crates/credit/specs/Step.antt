@@ -7,16 +7,11 @@ use Rattle.protocol.specs.Refusals.{noCredit}
 use Rattle.protocol.specs.declared.place.Place.{Place}
 use Rattle.rules.specs.Reading.{readFrame}
 use Rattle.rules.specs.Reading as rules
-use Rattle.layouts.specs.Answer.{answerOf}
-use Rattle.ledger.specs.Calls.{Op, start, add, take, stop, Answer, refused, answerBy}
+use Rattle.ledger.specs.Calls.{Op, start, add, take, stop, answerBy}
 use Rattle.ledger.specs.Rules.{Act, aside, at, Terms, answerTo, ledgerAfter}
 use Rattle.ledger.specs.Answers.{numberOf}
 use Rattle.ledger.specs.declared.Change.{Change}
 use Rattle.credit.specs.Calls.{Call, opening, grant, closing, received, Yield, nothing, frame, Refusal, number, Reply, readAnswer, deliverId}
-use Rattle.credit.specs.declared.receiving.Received.{Received}
-use Rattle.credit.specs.declared.receiving.Received.the-variants.{Reading, Refused}
-use Rattle.credit.specs.declared.subscription.Subscription.{Subscription}
-use Rattle.credit.specs.declared.subscription.Subscription.the-variants.{Id, Nothing}
 
 -- What a Deliver asks of its id: to take one from the balance, 15 if there is none.
 abbrev pub spend : Op
@@ -51,11 +46,3 @@ after l c = ledgerAfter l (act c)
 -- What the code's answers say.
 abbrev pub answerOfChange : Change → Reply
 answerOfChange r = answerBy number (numberOf r) nothing
-
-abbrev pub answerOfReceived : Received → Reply
-answerOfReceived (Reading r) = readAnswer (answerOf r)
-answerOfReceived (Refused n) = refused (number n)
-
-abbrev pub idOf : Subscription → Option ℕ
-idOf (Id i) = some i
-idOf Nothing = none

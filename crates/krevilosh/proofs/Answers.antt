@@ -24,8 +24,8 @@ use Rattle.ledger.specs.Calls as calls
 use Rattle.ledger.specs.Rules.{refusal, entryAt, answerTo}
 use Rattle.credit.specs.Calls.{received, nothing, frame, number, short, unread, Reply, readAnswer, deliverId}
 use Rattle.credit.specs.Step.{answer, after, actOnFrame, actOnReading}
-use Rattle.credit.specs.Subscription.{addressed, affords, spent}
-use Rattle.credit.proofs.Addressed.{afforded}
+use Rattle.receiving.specs.Subscription.{addressed, affords, spent}
+use Rattle.receiving.proofs.Addressed.{afforded}
 use Rattle.flat.specs.Flat.{flatFrame}
 use Rattle.fast_reading.specs.Answer.{ReadsAs}
 use Rattle.krevilosh.specs.Answer.{readNumber, readSlots, NeededFits, orZero, creditNumber, creditSlots, publisherNumber}

@@ -6,10 +6,10 @@ ghost use Rattle.credit.specs.Calls.{received};
 ghost use Rattle.credit.specs.Step.{answer, after};
 ghost use Rattle.krevilosh.specs.Answer.{creditNumber, creditSlots, readNumber, readSlots, NeededFits};
 use crate::packed;
-use credit::Received;
 use flat::frame_slots;
 use layouts::Reading;
 use protocol::refusal;
+use receiving::Received;
 
 // The frame at the start of the bytes, under a frame limit, into the frame's slots. What the fast reader leaves, the
 // reader that knows every layout and every refusal reads.
@@ -38,10 +38,10 @@ pub extern "C" fn krevilosh_credit_receive(
     ensures { λ _. ⌜ now (credits .exit) ≡ after (now (credits .entry)) (received (now (bytes .entry)) limit) ⌝ }
     ensures { λ _. ⌜ now (frame .exit) ≡ creditSlots (now (frame .entry)) (answer (now (credits .entry)) (received (now (bytes .entry)) limit)) ⌝ }
 {
-    let subscription = credit::subscription_of(bytes);
-    if credit::affords(credits, subscription) {
+    let subscription = receiving::subscription_of(bytes);
+    if receiving::affords(credits, subscription) {
         if fast_reading::read(bytes, limit, frame) {
-            credit::spend(credits, subscription);
+            receiving::spend(credits, subscription);
             return 0;
         }
         return receive_any(credits, bytes, limit, frame);
@@ -55,7 +55,7 @@ fn receive_any(credits: &mut [u32; 257], bytes: &[u8], limit: u32, frame: &mut [
     ensures { λ _. ⌜ now (credits .exit) ≡ after (now (credits .entry)) (received (now (bytes .entry)) limit) ⌝ }
     ensures { λ _. ⌜ now (frame .exit) ≡ creditSlots (now (frame .entry)) (answer (now (credits .entry)) (received (now (bytes .entry)) limit)) ⌝ }
 {
-    let answered = credit::receive(credits, bytes, limit);
+    let answered = receiving::receive(credits, bytes, limit);
     match answered {
         Received::Reading(reading) => put_reading(frame, reading),
         Received::Refused(number) => number as u64,

@@ -1,9 +1,9 @@
 // The answers on standard output, a line each.
-use credit::Received;
 use layouts::Reading;
 use ledger::Change;
 use ledger::IdState;
 use libc::STDOUT_FILENO;
+use receiving::Received;
 
 pub fn change(answer: Change) {
     match answer {

@@ -42,5 +42,5 @@ fn call(line: &[u8], credits: &mut [u32; 257], publishers: &mut [u32; 257]) {
 fn receive(line: &[u8], credits: &mut [u32; 257], limit: u32, from: usize) {
     let mut buffer = io::buffer();
     let n = script::hex(line, from, &mut buffer);
-    answers::received(credit::receive(credits, &buffer[..n], limit));
+    answers::received(receiving::receive(credits, &buffer[..n], limit));
 }

@@ -5,8 +5,8 @@ use denote.Ref.{now}
 use Rattle.wire.specs.Integers.{Bytes}
 use Rattle.layouts.specs.Answer.{answerOf}
 use Rattle.credit.specs.Calls.{Reply}
-use Rattle.credit.specs.Step.{answerOfReceived}
-use Rattle.credit.specs.declared.receiving.Received.{Received}
+use Rattle.receiving.specs.Answer.{answerOfReceived}
+use Rattle.receiving.specs.declared.receiving.Received.{Received}
 use Rattle.krevilosh.specs.Answer.{creditNumber, creditSlots}
 use Rattle.krevilosh.proofs.Answers.{read-number, read-slots, received-fits}
 use borrow.Author.Needs.{needs}

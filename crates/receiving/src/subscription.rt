@@ -1,7 +1,6 @@
 // What a frame's first bytes say of its subscription: whether the ledger will refuse the frame is known before it is read.
 ghost use mathlib.Core.Path.{_≡_};
-ghost use Rattle.credit.specs.Step.{idOf};
-ghost use Rattle.credit.specs.Subscription.{addressed, affords, spent};
+ghost use Rattle.receiving.specs.Subscription.{idOf, addressed, affords, spent};
 use protocol::refusal;
 
 // The subscription that a Deliver is for; other frames are for none.

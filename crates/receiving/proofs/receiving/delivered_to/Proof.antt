@@ -3,10 +3,10 @@ use mathlib.Core.Path.{sym, ap}
 use borrow.Author.Needs.{needs}
 use Rattle.protocol.specs.Frames.{fieldsOf}
 use Rattle.protocol.specs.declared.frame.Frame.{Frame}
 use Rattle.credit.specs.Calls.{deliverId}
-use Rattle.credit.proofs.Delivers.{not-deliver}
-use Rattle.credit.proofs.receiving.delivered_to.Statement.{statement}
-use Rattle.credit.proofs.receiving.delivered_to.Tie as tie
+use Rattle.receiving.proofs.Tags.{not-deliver}
+use Rattle.receiving.proofs.receiving.delivered_to.Statement.{statement}
+use Rattle.receiving.proofs.receiving.delivered_to.Tie as tie
 
 pub delivered-to-spec : {M : Type 1} → statement M
 delivered-to-spec =

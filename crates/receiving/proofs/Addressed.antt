@@ -26,11 +26,11 @@ use Rattle.rules.proofs.Parts.{length-part}
 use Rattle.ledger.specs.Calls.{accepted, answerBy}
 use Rattle.ledger.specs.Calls as calls
 use Rattle.ledger.specs.Rules.{refusal, decode, entryAt, answerTo, ledgerAfter}
 use Rattle.credit.specs.Calls.{received, frame, Reply, number as refusing, firstNumber, deliverId}
 use Rattle.credit.specs.Step.{spend, actOnFrame, answer}
 use Rattle.credit.specs.Step as step
-use Rattle.credit.specs.Subscription.{addressed, admitted, affords, spent}
+use Rattle.receiving.specs.Subscription.{addressed, admitted, affords, spent}
 use Rattle.credit.proofs.Ids.{first-moved}
 
 -- ---- The bytes at 4 and 8
 

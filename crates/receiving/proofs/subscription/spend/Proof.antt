@@ -2,11 +2,10 @@
 use mathlib.Core.Path.{sym, ap, _∙_}
 use borrow.Author.Needs.{needs}
 use denote.Ref.{now}
-use Rattle.credit.specs.Step.{idOf}
-use Rattle.credit.specs.Subscription.{spent}
-use Rattle.credit.specs.declared.subscription.Subscription.{Subscription}
-use Rattle.credit.proofs.subscription.spend.Statement.{statement}
-use Rattle.credit.proofs.subscription.spend.Tie as tie
+use Rattle.receiving.specs.Subscription.{idOf, spent}
+use Rattle.receiving.specs.declared.subscription.Subscription.{Subscription}
+use Rattle.receiving.proofs.subscription.spend.Statement.{statement}
+use Rattle.receiving.proofs.subscription.spend.Tie as tie
 
 pub spend-spec : {M : Type 1} → statement M
 spend-spec =

@@ -3,12 +3,11 @@ use mathlib.Core.Path.{sym, ap, _∙_}
 use borrow.Author.Needs.{needs}
 use denote.Ref.{now}
 use lib.ListN.{getD}
-use Rattle.credit.specs.Step.{idOf}
-use Rattle.credit.specs.Subscription.{affords}
-use Rattle.credit.specs.declared.subscription.Subscription.{Subscription}
-use Rattle.credit.proofs.Addressed.{enough}
-use Rattle.credit.proofs.subscription.affords.Statement.{statement}
-use Rattle.credit.proofs.subscription.affords.Tie as tie
+use Rattle.receiving.specs.Subscription.{idOf, affords}
+use Rattle.receiving.specs.declared.subscription.Subscription.{Subscription}
+use Rattle.receiving.proofs.Addressed.{enough}
+use Rattle.receiving.proofs.subscription.affords.Statement.{statement}
+use Rattle.receiving.proofs.subscription.affords.Tie as tie
 
 pub affords-spec : {M : Type 1} → statement M
 affords-spec =

@@ -8,7 +8,14 @@ use lib.Dec.{eqb, ltb}
 use lib.ListN.{length, getD}
 use Rattle.wire.specs.Integers.{bigEndian}
 use Rattle.ledger.specs.Rules.{refusal, entryAt, ledgerAt}
 use Rattle.credit.specs.Step.{spend}
+use Rattle.receiving.specs.declared.subscription.Subscription.{Subscription}
+use Rattle.receiving.specs.declared.subscription.Subscription.the-variants.{Id, Nothing}
+
+-- What the code's subscription says.
+abbrev pub idOf : Subscription → Option ℕ
+idOf (Id i) = some i
+idOf Nothing = none
 
 -- The subscription id that the bytes are for, if they begin with a Deliver: the key is the two bytes at 4, the id the byte
 -- at 8.

@@ -1,8 +1,10 @@
 // Received frames: a Deliver spends one of its subscription's credits.
 ghost use mathlib.Core.Path.{_≡_};
 ghost use Rattle.protocol.specs.Frames.{fieldsOf};
 ghost use Rattle.credit.specs.Calls.{received, deliverId};
-ghost use Rattle.credit.specs.Step.{answer, after, answerOfReceived, idOf};
+ghost use Rattle.credit.specs.Step.{answer, after};
+ghost use Rattle.receiving.specs.Answer.{answerOfReceived};
+ghost use Rattle.receiving.specs.Subscription.{idOf};
 use crate::subscription::Subscription;
 use layouts::Reading;
 use ledger::Change;

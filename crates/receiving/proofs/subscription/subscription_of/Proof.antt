@@ -1,9 +1,9 @@
 -- Each way out by its test.
 use borrow.Author.Needs.{needs}
 use denote.Ref.{now}
-use Rattle.credit.proofs.Addressed.{too-short, high-byte, low-byte, deliver-key}
-use Rattle.credit.proofs.subscription.subscription_of.Statement.{statement}
-use Rattle.credit.proofs.subscription.subscription_of.Tie as tie
+use Rattle.receiving.proofs.Addressed.{too-short, high-byte, low-byte, deliver-key}
+use Rattle.receiving.proofs.subscription.subscription_of.Statement.{statement}
+use Rattle.receiving.proofs.subscription.subscription_of.Tie as tie
 
 pub subscription-of-spec : {M : Type 1} → statement M
 subscription-of-spec =

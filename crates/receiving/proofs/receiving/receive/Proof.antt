@@ -6,10 +6,10 @@ use denote.Ref.{now}
 use Rattle.protocol.specs.Frames.{fieldsOf}
 use Rattle.layouts.specs.Answer.{answerOf}
 use Rattle.ledger.specs.Answers.{numberOf}
-use Rattle.credit.specs.Step.{idOf}
-use Rattle.credit.proofs.Answers.{no-frame, no-deliver, deliver}
-use Rattle.credit.proofs.receiving.receive.Statement.{statement}
-use Rattle.credit.proofs.receiving.receive.Tie as tie
+use Rattle.receiving.specs.Subscription.{idOf}
+use Rattle.receiving.proofs.Answers.{no-frame, no-deliver, deliver}
+use Rattle.receiving.proofs.receiving.receive.Statement.{statement}
+use Rattle.receiving.proofs.receiving.receive.Tie as tie
 
 pub receive-spec : {M : Type 1} → statement M
 receive-spec =
