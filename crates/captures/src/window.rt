@@ -32,7 +32,7 @@ pub fn next_frame(rest: &[u8], ended: bool) -> Next
         }
         return Next::More;
     }
-    match frames::read(rest, LIMIT) {
+    match frame_reading::read(rest, LIMIT) {
         Reading::Frame(frame) => {
             let size = u32_field(rest, Cursor::within(0));
             let key = u16_field(rest, Cursor::within(4));

@@ -1,17 +1,15 @@
 -- What a writer's state says of the next field writer: a refused one stays as it is, one that measures goes by the
 -- field's encoding, and one that puts by how the field is put. Assumes nothing.
-use mathlib.Core.Path.{_≡_, refl, _∙_, ap}
+use mathlib.Core.Path.{_≡_, _∙_, ap}
 use mathlib.Core.Bool.{true, false}
-use mathlib.Core.List.{List, [], _∷_}
+use mathlib.Core.List.{List}
 use Prim.Native.Nat.{ℕ, _+_, _<_, _≤_}
 use lib.ListN.{length}
 use borrow.Author.Tests.{eq-eqb, ne-eqb, lt-ltb, le-ltb}
 use Rattle.wire.specs.Buffer.{Holds, holds, put, copied}
-use Rattle.protocol.specs.Fields.{Field}
-use Rattle.protocol.specs.Kinds.{Kind, Row, end, _·_}
 use Rattle.protocol.specs.declared.place.Place.{Place}
 use Rattle.rules.specs.Writing.{Encoding, wrote, refuse}
-use Rattle.fields.specs.Writer.{writer, bound, capped, State, state, measured, behind, copiedBehind, step, stepField, stepRow}
+use Rattle.fields.specs.Writer.{writer, bound, capped, State, state, measured, behind, copiedBehind, step}
 use Rattle.fields.specs.declared.writer.Writer.{Writer}
 
 module _ (e : Encoding) (puts : Holds → Holds) (w : Writer) (out : List ℕ) where
@@ -55,14 +53,3 @@ cap-over n h = rw (lt-ltb _ _ h)
 pub cap-under : (n : ℕ) → n ≤ bound → n ≡ capped n
 unfolding capped
 cap-under n h = rw (le-ltb _ _ h)
-
--- Field writers one behind another.
-pub data Steps (src : List ℕ) : Row → List (Field Place) → State → State → Type 0 where
-  done : {s : State} → Steps src end [] s s
-  link : {k : Kind} {row : Row} {f : Field Place} {fs : List (Field Place)} {s t u : State} → t ≡ stepField k src f s → Steps src row fs t u → Steps src (k · row) (f ∷ fs) s u
-
--- They write a row.
-pub row-written : {src : List ℕ} {row : Row} {fs : List (Field Place)} {s u : State} → Steps src row fs s u → u ≡ stepRow row src fs s
-unfolding stepRow
-row-written done = refl
-row-written {src} (link {row = row} {fs = fs} p q) = row-written q ∙ ap (stepRow row src fs) p

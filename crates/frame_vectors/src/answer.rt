@@ -11,7 +11,7 @@ use protocol::Frame;
 
 pub fn run(name: &[u8], limit: u32, bytes: &[u8]) {
     text::word(name);
-    match frames::read(bytes, limit) {
+    match frame_reading::read(bytes, limit) {
         Reading::Frame(frame) => {
             accepted(bytes, frame);
             cuts(name, limit, bytes);
@@ -23,7 +23,7 @@ pub fn run(name: &[u8], limit: u32, bytes: &[u8]) {
 
 // With one byte more behind the vector: printed if that is a frame. A byte behind a frame plays no part.
 pub fn longer(name: &[u8], limit: u32, bytes: &[u8]) {
-    match frames::read(bytes, limit) {
+    match frame_reading::read(bytes, limit) {
         Reading::Frame(frame) => {
             text::word(name);
             text::word(b" longer");
@@ -120,7 +120,7 @@ fn needing(limit: u32, frame: &[u8], from: usize, n: u64) -> u64
 fn short_of(limit: u32, cut: &[u8], n: u64) -> u64
     ensures { λ r. ⌜ r ≤ 1 ⌝ }
 {
-    match frames::read(cut, limit) {
+    match frame_reading::read(cut, limit) {
         Reading::Frame(_) => 0,
         Reading::Short { needed } => one_if(needed == n),
         Reading::Refused {

@@ -21,12 +21,12 @@ pub extern "C" fn krevilosh_read(bytes: &[u8], limit: u32, frame: &mut [u64; 24]
     if fast_reading::read(bytes, limit, frame) {
         return 0;
     }
-    let reading = frames::read(bytes, limit);
+    let reading = frame_reading::read(bytes, limit);
     put_reading(frame, reading)
 }
 
 // Reads a frame, and takes one credit from its subscription if it is a Deliver. The slots are touched only if the frame is
-// handed over, so the fast reader is asked only where the ledger will not refuse.
+// handed over, so it is read into them only where the ledger will not refuse it.
 #[no_mangle]
 pub extern "C" fn krevilosh_credit_receive(
     credits: &mut [u32; 257],
@@ -40,16 +40,17 @@ pub extern "C" fn krevilosh_credit_receive(
 {
     let subscription = receiving::subscription_of(bytes);
     if receiving::affords(credits, subscription) {
-        if fast_reading::read(bytes, limit, frame) {
-            receiving::spend(credits, subscription);
-            return 0;
+        let answer = krevilosh_read(bytes, limit, frame);
+        if answer != 0 {
+            return answer;
         }
-        return receive_any(credits, bytes, limit, frame);
+        receiving::spend(credits, subscription);
+        return 0;
     }
     receive_any(credits, bytes, limit, frame)
 }
 
-// The same by the reader that knows every layout and every refusal.
+// The same by way of the typed frame, of which the slots learn nothing if the ledger refuses it.
 fn receive_any(credits: &mut [u32; 257], bytes: &[u8], limit: u32, frame: &mut [u64; 24]) -> u64
     ensures { λ r. ⌜ r ≡ creditNumber (answer (now (credits .entry)) (received (now (bytes .entry)) limit)) ⌝ }
     ensures { λ _. ⌜ now (credits .exit) ≡ after (now (credits .entry)) (received (now (bytes .entry)) limit) ⌝ }

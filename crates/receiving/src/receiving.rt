@@ -24,7 +24,7 @@ pub fn receive(credits: &mut [u32; 257], bytes: &[u8], limit: u32) -> Received
     ensures { λ r. ⌜ answerOfReceived r ≡ answer (now (credits .entry)) (received (now (bytes .entry)) limit) ⌝ }
     ensures { λ r. ⌜ now (credits .exit) ≡ after (now (credits .entry)) (received (now (bytes .entry)) limit) ⌝ }
 {
-    let reading = frames::read(bytes, limit);
+    let reading = frame_reading::read(bytes, limit);
     let Reading::Frame(frame) = reading else {
         return Received::Reading(reading);
     };

@@ -27,7 +27,7 @@ pub fn walk(s: &[u8]) {
 fn trip(s: &[u8]) -> usize
     ensures { λ r. ⌜ r ≤ length (now (s .entry)) ⌝ }
 {
-    match frames::read(s, 0) {
+    match frame_reading::read(s, 0) {
         Reading::Frame(frame) => written(s, frame),
         Reading::Short { .. } => 0,
         Reading::Refused { .. } => 0,
@@ -69,7 +69,7 @@ fn compared(s: &[u8], out: &[u8], len: usize) -> usize
 }
 
 fn is_frame(s: &[u8]) -> bool {
-    match frames::read(s, 0) {
+    match frame_reading::read(s, 0) {
         Reading::Frame(_) => true,
         Reading::Short { .. } => false,
         Reading::Refused { .. } => false,

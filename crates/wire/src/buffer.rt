@@ -44,6 +44,10 @@ fn copy(out: &mut [u8], at: usize, src: &[u8], from: usize, len: usize)
         block_16(out, at + done, src, from + done);
         done += 16;
     }
+    while 4 <= len - done {
+        block_4(out, at + done, src, from + done);
+        done += 4;
+    }
     each(out, at + done, src, from + done, len - done);
 }
 
@@ -72,6 +76,15 @@ fn block_16(out: &mut [u8], at: usize, src: &[u8], from: usize)
     let mut block = [0u8; 16];
     each(&mut block[..], 0, src, from, 16);
     each(out, at, &block[..], 0, 16);
+}
+
+fn block_4(out: &mut [u8], at: usize, src: &[u8], from: usize)
+    requires { ⌜ (at + 4 ≤ length (now out)) × (from + 4 ≤ length (now src)) ⌝ }
+    ensures { λ _. ⌜ now (out .exit) ≡ splice (now (out .entry)) at (take 4 (drop from (now (src .entry)))) ⌝ }
+{
+    let mut block = [0u8; 4];
+    each(&mut block[..], 0, src, from, 4);
+    each(out, at, &block[..], 0, 4);
 }
 
 // Byte by byte.

@@ -3,7 +3,7 @@ use Rattle.captures.proofs.Followings.{nothing-left, something-left, fr
 use Rattle.layouts.specs.Answer.{answerOf}
 use Rattle.wire.specs.Integers.{Bytes}
 use mathlib.Core.Path.{_∙_, refl, sym, ap}
-use Rattle.frames.proofs.Sizes.{number-read}
+use Rattle.frame_reading.proofs.Sizes.{number-read}
 use native.Mathlib.Omega.{arith}
 use borrow.Author.Needs.{needs}
 use Rattle.captures.proofs.window.next_frame.Statement.{statement}

@@ -34,35 +34,49 @@ Inv-loop3 = Inv
 abbrev μ-loop3 : tie.MeasureT-loop3
 μ-loop3 = μ
 
-loop-again : tie.Need-loop-again Inv-loop μ-loop Inv-loop2 μ-loop2 Inv-loop3 μ-loop3
+abbrev Inv-loop4 : tie.InvT-loop4
+Inv-loop4 = Inv
+
+abbrev μ-loop4 : tie.MeasureT-loop4
+μ-loop4 = μ
+
+loop-again : tie.Need-loop-again Inv-loop μ-loop Inv-loop2 μ-loop2 Inv-loop3 μ-loop3 Inv-loop4 μ-loop4
 loop-again c =
     let b = c .before .before in
     let l = b .before .before .before in
     let p = l .before .before .before .pre in
     (omega arith, search needs, remaining-turn _ _ _ _ _ _ _ _ 4096 (omega arith) (omega arith) (p .1) (b .block-4096 .ensures) (l .loop .inv .2))
 
-loop2-again : tie.Need-loop2-again Inv-loop μ-loop Inv-loop2 μ-loop2 Inv-loop3 μ-loop3
+loop2-again : tie.Need-loop2-again Inv-loop μ-loop Inv-loop2 μ-loop2 Inv-loop3 μ-loop3 Inv-loop4 μ-loop4
 loop2-again c =
     let b = c .before .before in
     let l = b .before .before .before in
     let p = l .before .before .before .before .before .pre in
     (omega arith, search needs, remaining-turn _ _ _ _ _ _ _ _ 256 (omega arith) (omega arith) (p .1) (b .block-256 .ensures) (l .loop2 .inv .2))
 
-loop3-again : tie.Need-loop3-again Inv-loop μ-loop Inv-loop2 μ-loop2 Inv-loop3 μ-loop3
+loop3-again : tie.Need-loop3-again Inv-loop μ-loop Inv-loop2 μ-loop2 Inv-loop3 μ-loop3 Inv-loop4 μ-loop4
 loop3-again c =
     let b = c .before .before in
     let l = b .before .before .before in
     let p = l .before .before .before .before .before .before .before .pre in
     (omega arith, search needs, remaining-turn _ _ _ _ _ _ _ _ 16 (omega arith) (omega arith) (p .1) (b .block-16 .ensures) (l .loop3 .inv .2))
 
-returns : tie.Need-returns Inv-loop μ-loop Inv-loop2 μ-loop2 Inv-loop3 μ-loop3
+loop4-again : tie.Need-loop4-again Inv-loop μ-loop Inv-loop2 μ-loop2 Inv-loop3 μ-loop3 Inv-loop4 μ-loop4
+loop4-again c =
+    let b = c .before .before in
+    let l = b .before .before .before in
+    let p = l .before .before .before .before .before .before .before .before .before .pre in
+    (omega arith, search needs, remaining-turn _ _ _ _ _ _ _ _ 4 (omega arith) (omega arith) (p .1) (b .block-4 .ensures) (l .loop4 .inv .2))
+
+returns : tie.Need-returns Inv-loop μ-loop Inv-loop2 μ-loop2 Inv-loop3 μ-loop3 Inv-loop4 μ-loop4
 returns c =
     let e = c .before .before in
-    let l3 = e .before .before .before in
+    let l4 = e .before .before .before in
+    let l3 = l4 .before .before in
     let l2 = l3 .before .before in
     let l1 = l2 .before .before in
     let a = l1 .before .before .before .args in
-    remaining-end _ (a .out .now) (a .src .now) (a .at) (a .from) (a .len) (rw (l3 .loop3 .inv .2, l2 .loop2 .inv .2, l1 .loop .inv .2) at (e .each .ensures))
+    remaining-end _ (a .out .now) (a .src .now) (a .at) (a .from) (a .len) (rw (l4 .loop4 .inv .2, l3 .loop3 .inv .2, l2 .loop2 .inv .2, l1 .loop .inv .2) at (e .each .ensures))
 
 pub copy-spec : {M : Type 1} → statement M
 copy-spec =
@@ -74,6 +88,8 @@ copy-spec =
     μ-loop2
     Inv-loop3
     μ-loop3
+    Inv-loop4
+    μ-loop4
     (λ c. search needs)
     (λ c. search needs)
     (λ c. search needs)
@@ -98,6 +114,14 @@ copy-spec =
     (λ c. search needs)
     (λ c. search needs)
     loop3-again
+    (λ c. search needs)
+    (λ c. search needs)
+    (λ c. search needs)
+    (λ c. search needs)
+    (λ c κs. search needs)
+    (λ c. search needs)
+    (λ c. search needs)
+    loop4-again
     (λ c. search needs)
     (λ c. search needs)
     (λ c. search needs)

@@ -1,12 +1,12 @@
 -- By whether four bytes are there.
-use Rattle.frames.proofs.Sizes.{size-there, size-cut}
+use Rattle.frame_reading.proofs.Sizes.{size-there, size-cut}
 use Rattle.wire.proofs.Widths.{integers, is-there, is-cut}
 use Rattle.wire.specs.Integers.{Bytes}
 use mathlib.Core.Path.{_∙_, sym}
 use native.Mathlib.Omega.{arith}
 use borrow.Author.Needs.{needs}
-use Rattle.frames.proofs.reading.read.Statement.{statement}
-use Rattle.frames.proofs.reading.read.Tie as tie
+use Rattle.frame_reading.proofs.reading.read.Statement.{statement}
+use Rattle.frame_reading.proofs.reading.read.Tie as tie
 
 pub read-spec : {M : Type 1} → statement M
 unfolding Bytes

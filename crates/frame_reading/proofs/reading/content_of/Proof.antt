@@ -1,7 +1,7 @@
 -- By the layout, whose key and version are those of its reader.
 use borrow.Author.Needs.{needs}
-use Rattle.frames.proofs.reading.content_of.Statement.{statement}
-use Rattle.frames.proofs.reading.content_of.Tie as tie
+use Rattle.frame_reading.proofs.reading.content_of.Statement.{statement}
+use Rattle.frame_reading.proofs.reading.content_of.Tie as tie
 
 pub content-of-spec : {M : Type 1} → statement M
 content-of-spec =

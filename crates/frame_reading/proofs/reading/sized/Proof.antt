@@ -1,13 +1,13 @@
 -- The checks in their order.
-use Rattle.frames.proofs.Sizes.{too-large, too-small, in-part, whole}
+use Rattle.frame_reading.proofs.Sizes.{too-large, too-small, in-part, whole}
 use Rattle.rules.specs.Reading.{readDecided}
 use Rattle.wire.specs.Integers.{Bytes}
 use mathlib.Core.Path.{_∙_, refl, sym, ap}
 use Rattle.protocol.specs.Decision.{decisionOf}
 use native.Mathlib.Omega.{arith}
 use borrow.Author.Needs.{needs}
-use Rattle.frames.proofs.reading.sized.Statement.{statement}
-use Rattle.frames.proofs.reading.sized.Tie as tie
+use Rattle.frame_reading.proofs.reading.sized.Statement.{statement}
+use Rattle.frame_reading.proofs.reading.sized.Tie as tie
 
 pub sized-spec : {M : Type 1} → statement M
 unfolding Bytes readDecided
