@@ -15,7 +15,6 @@ use Rattle.protocol.specs.Fields.{Field, Fields}
 use Rattle.protocol.specs.Refusals.{noCredit}
 use Rattle.protocol.specs.Table.{rowOf}
 use Rattle.protocol.specs.declared.place.Place.{Place}
-use Rattle.rules.proofs.Bounds.{Bounded, bounded-content}
 use Rattle.rules.proofs.Gives.{choice}
 use Rattle.rules.specs.Outcome.{Outcome, got, refused}
 use Rattle.rules.specs.Reading.{Reading, readingOf, readContent, readLayout, readDecided, overLimit, readSized, readFrame}
@@ -74,58 +73,27 @@ left-alone r old new false h e = h
 pub as-read : (old new x : List ℕ) (r r' : Reading) → new ≡ old → r ≡ r' → x ≡ readSlots new r → x ≡ readSlots old r'
 as-read old new x r r' i j e = rw (← i, ← j) e
 
--- ---- Receiving where the ledger does not refuse
-
--- No refusal of reading has the number 0, so 0 tells a frame.
-abbrev Told : Reading → Type 0
-Told (rules.frame f) = Unit
-Told (rules.short needed) = Unit
-Told (rules.refusal n place) = n ≡ 0 → ⊥
-
-told-decided : (d : Decision) (content : List ℕ) → Told (readDecided d content)
-unfolding readDecided readLayout
-told-decided (layout k v) content = by (readContent (rowOf k v) content) (bounded-content (rowOf k v) content)
+-- A frame that the fast reader has read, and that the ledger has a credit for.
+pub received-fast : (l l' s : List ℕ) (limit : ℕ) (o : Option ℕ) (old new : List ℕ) (t u : Bool)
+    → o ≡ addressed s → t ≡ affords l o → t ≡ true → ReadsAs (readFrame s limit) old u new → u ≡ true → l' ≡ spent l o
+    → (0 ≡ creditNumber (answer l (received s limit))) × ((l' ≡ after l (received s limit)) × (new ≡ creditSlots old (answer l (received s limit))))
+received-fast l l' s limit o old new t u a p q h e w = by (readFrame s limit) refl h
   where
-    by : (o : Outcome (List (Field Place))) → Bounded content 0 o → Told (readingOf k v o)
-    by (got fs behind) b = tt
-    by (refused n at) b = b .0
-told-decided unlistedKey content = λ z. omega (arith, z)
-told-decided unlistedVersion content = λ z. omega (arith, z)
+    told : (f : Fields Place) → readFrame s limit ≡ rules.frame f → new ≡ flatFrame f
+        → (0 ≡ creditNumber (answer l (received s limit))) × ((l' ≡ after l (received s limit)) × (new ≡ creditSlots old (answer l (received s limit))))
+    told f i g =
+        let k = afforded l s limit f i (ap (affords l) (sym a) ∙ sym p ∙ q) in
+        (sym (ap creditNumber (k .0)), (w ∙ ap (spent l) a ∙ sym (k .1), g ∙ sym (ap (creditSlots old) (k .0))))
 
-told : (s : List ℕ) (limit : ℕ) → Told (readFrame s limit)
-unfolding readFrame readSized
-told s limit =
-    choice (λ r. Told r) (ltb (length s) 4) _ _ (λ _. tt) (λ _.
-    choice (λ r. Told r) (overLimit limit (bigEndian 4 s 0)) _ _ (λ _. λ z. omega (arith, z)) (λ _.
-    choice (λ r. Told r) (ltb (bigEndian 4 s 0) 4) _ _ (λ _. λ z. omega (arith, z)) (λ _.
-    choice (λ r. Told r) (ltb (length s) (bigEndian 4 s 0 + 4)) _ _ (λ _. tt) (λ _.
-    told-decided (decide (bigEndian 2 s 4) (bigEndian 2 s 6)) _))))
+    by : (r : Reading) → readFrame s limit ≡ r → ReadsAs r old u new
+        → (0 ≡ creditNumber (answer l (received s limit))) × ((l' ≡ after l (received s limit)) × (new ≡ creditSlots old (answer l (received s limit))))
+    by (rules.frame f) i g = told f i (subst (λ (x : Bool). ReadsAs (rules.frame f) old x new) e g)
+    by (rules.short needed) i g = absurd (subst (λ (x : Bool). ReadsAs (rules.short needed) old x new) e g)
+    by (rules.refusal n place) i g = absurd (subst (λ (x : Bool). ReadsAs (rules.refusal n place) old x new) e g)
 
--- A received frame's answer, and what the ledger and the slots hold afterwards.
-abbrev Receives : List ℕ → List ℕ → ℕ → List ℕ → ℕ → List ℕ → List ℕ → Type 0
-Receives l s limit old n l' new =
-    (n ≡ creditNumber (answer l (received s limit))) × ((l' ≡ after l (received s limit)) × (new ≡ creditSlots old (answer l (received s limit))))
-
-module _ (l s : List ℕ) (limit : ℕ) (old new : List ℕ) (n : ℕ) (i : n ≡ readNumber (readFrame s limit)) (j : new ≡ readSlots old (readFrame s limit)) where
-  -- What is not read is answered as reading answers it.
-  pub received-unread : (n ≡ 0 → ⊥) → Receives l s limit old n l new
-  received-unread h = by (readFrame s limit) refl i j
-    where
-      by : (r : Reading) → readFrame s limit ≡ r → n ≡ readNumber r → new ≡ readSlots old r → Receives l s limit old n l new
-      by (rules.frame f) e i j = absurd (h i)
-      by (rules.short needed) e i j = (rw e i, (rw e, rw e j))
-      by (rules.refusal m place) e i j = (rw e i, (rw e, rw e j))
-
-  -- A frame that is read, and that the ledger has a credit for, is handed over, and its credit is spent.
-  pub received-read : (l' : List ℕ) (o : Option ℕ) → n ≡ 0 → o ≡ addressed s → affords l o ≡ true → l' ≡ spent l o → Receives l s limit old 0 l' new
-  received-read l' o z a h w = by (readFrame s limit) refl (told s limit) i j
-    where
-      by : (r : Reading) → readFrame s limit ≡ r → Told r → n ≡ readNumber r → new ≡ readSlots old r → Receives l s limit old 0 l' new
-      by (rules.frame f) e t i j =
-          let k = afforded l s limit f e (ap (affords l) (sym a) ∙ h) in
-          (sym (ap creditNumber (k .0)), (w ∙ ap (spent l) a ∙ sym (k .1), j ∙ sym (ap (creditSlots old) (k .0))))
-      by (rules.short needed) e t i j = absurd (omega (arith, i, z))
-      by (rules.refusal m place) e t i j = absurd (t (sym i ∙ z))
+-- What is answered with slots that were left alone.
+pub as-received : (old new x : List ℕ) (y : Reply) → new ≡ old → x ≡ creditSlots new y → x ≡ creditSlots old y
+as-received old new x y i e = rw (← i) e
 
 -- ---- The answers of the ledgers
 

@@ -26,7 +26,7 @@ pub extern "C" fn krevilosh_read(bytes: &[u8], limit: u32, frame: &mut [u64; 24]
 }
 
 // Reads a frame, and takes one credit from its subscription if it is a Deliver. The slots are touched only if the frame is
-// handed over, so it is read into them only where the ledger will not refuse it.
+// handed over, so the fast reader is asked only where the ledger will not refuse.
 #[no_mangle]
 pub extern "C" fn krevilosh_credit_receive(
     credits: &mut [u32; 257],
@@ -40,17 +40,16 @@ pub extern "C" fn krevilosh_credit_receive(
 {
     let subscription = receiving::subscription_of(bytes);
     if receiving::affords(credits, subscription) {
-        let answer = krevilosh_read(bytes, limit, frame);
-        if answer != 0 {
-            return answer;
+        if fast_reading::read(bytes, limit, frame) {
+            receiving::spend(credits, subscription);
+            return 0;
         }
-        receiving::spend(credits, subscription);
-        return 0;
+        return receive_any(credits, bytes, limit, frame);
     }
     receive_any(credits, bytes, limit, frame)
 }
 
-// The same by way of the typed frame, of which the slots learn nothing if the ledger refuses it.
+// The same by the reader that knows every layout and every refusal.
 fn receive_any(credits: &mut [u32; 257], bytes: &[u8], limit: u32, frame: &mut [u64; 24]) -> u64
     ensures { λ r. ⌜ r ≡ creditNumber (answer (now (credits .entry)) (received (now (bytes .entry)) limit)) ⌝ }
     ensures { λ _. ⌜ now (credits .exit) ≡ after (now (credits .entry)) (received (now (bytes .entry)) limit) ⌝ }

@@ -1,7 +1,9 @@
--- Where the ledger does not refuse, what is read is handed over and its credit spent, and what is not read is answered as
--- reading answers it.
-use mathlib.Core.Path.{_∙_, sym}
-use Rattle.krevilosh.proofs.Answers.{received-unread, received-read}
+-- Where the ledger has a credit for the frame, the fast reader's answer is the ledger's; where it leaves the slots alone, or there is
+-- no credit, the reader of any layout is asked.
+use denote.Ref.{now}
+use Rattle.credit.specs.Calls.{received}
+use Rattle.credit.specs.Step.{answer}
+use Rattle.krevilosh.proofs.Answers.{received-fast, left-alone, as-received}
 use borrow.Author.Needs.{needs}
 use Rattle.krevilosh.proofs.reading.krevilosh_credit_receive.Statement.{statement}
 use Rattle.krevilosh.proofs.reading.krevilosh_credit_receive.Tie as tie
@@ -13,11 +15,9 @@ krevilosh-credit-receive-spec =
     (λ c κs. search needs)
     (λ c κs. search needs)
     (λ c κs. search needs)
-    (λ c. let read = c .before .krevilosh-read .ensures in received-unread _ _ _ _ _ _ (read .0) (read .1) (c .if2 .taken))
     (λ c κs. search needs)
-    (λ c.
-    let read = c .before .before .before .krevilosh-read .ensures in
-    let afforded = c .before .before .before .before .before in
-    received-read _ _ _ _ _ _ (read .0) (read .1) _ _ (c .before .before .if2 .left) (afforded .before .before .before .subscription-of .ensures) (sym (afforded .before .affords .ensures) ∙ afforded .if1 .taken) (c .spend .ensures))
+    (λ c. received-fast _ _ _ _ _ _ _ _ _ (c .before .before .before .before .before .before .before .before .subscription-of .ensures) (c .before .before .before .before .before .before .affords .ensures) (c .before .before .before .before .before .if1 .taken) (c .before .before .before .read .ensures) (c .before .before .if2 .taken) (c .spend .ensures))
     (λ c κs. search needs)
-    (λ c. search needs))
+    (λ c. let a = c .before .before .before .before .before .before .before .before .before .before .before .args in let r = c .receive-any .ensures in (r .0, (r .1 .0, as-received (now (a .frame)) _ _ (answer (now (a .credits)) (received (now (a .bytes)) (a .limit))) (left-alone _ _ _ _ (c .before .before .before .before .read .ensures) (c .before .before .before .if2 .left)) (r .1 .1))))
+    (λ c κs. search needs)
+    (λ c. c .receive-any2 .ensures))

@@ -1,11 +1,12 @@
 -- The invariant: the bytes before i are ASCII. At the end those before the last eight are among them.
 use mathlib.Core.Path.{_≡_, _∙_, sym}
-use mathlib.Core.Bool.{true}
-use Prim.Native.Nat.{_-_, _+_}
+use mathlib.Core.Bool.{Bool, true}
+use mathlib.Core.List.{List}
+use Prim.Native.Nat.{ℕ, _-_, _≤_}
 use native.Mathlib.Omega.{arith}
 use borrow.Author.Needs.{needs}
 use borrow.Author.Tests.{not-true, not-false}
-use lib.ListN.{length, take}
+use lib.ListN.{length, take, drop}
 use Rattle.unicode.specs.Utf8.{ascii}
 use Rattle.unicode.proofs.Ascii.{turn, broken, ended}
 use Rattle.unicode.proofs.utf8.is_ascii.Statement.{statement}
@@ -33,12 +34,19 @@ loop-again c =
     turn (l .before .before .before .args .s .now) (l .loop .i) (l .loop .inv) 8
     (sym (c .before .word-ascii .ensures) ∙ not-false _ (c .if2 .left))
 
+-- The last eight bytes tell the rest.
+told : (s : List ℕ) (i : ℕ) (w t : Bool) → 8 ≤ length s → ascii (take i s) ≡ true → length s - 8 ≤ i → w ≡ ascii (take 8 (drop (length s - 8) s)) → w ≡ t → t ≡ ascii s
+told s i w t n h l e f = sym f ∙ e ∙ ended s i 8 (length s - 8) h l (omega arith)
+
 returns-3 : tie.Need-returns-3 Inv-loop μ-loop
 returns-3 c =
-    let l = c .before .before in
-    let s = l .before .before .before .args .s .now in
-    let e : length s - 8 + 8 ≡ length s = omega arith in
-    c .word-ascii2 .ensures ∙ ended s (l .loop .i) 8 (length s - 8) (l .loop .inv) (c .before .loop-test .left) e
+    let l = c .before .before .before in
+    told _ (l .loop .i) _ _ (omega arith) (l .loop .inv) (c .before .before .loop-test .left) (c .before .word-ascii2 .ensures) (c .if3 .taken)
+
+returns-4 : tie.Need-returns-4 Inv-loop μ-loop
+returns-4 c =
+    let l = c .before .before .before in
+    told _ (l .loop .i) _ _ (omega arith) (l .loop .inv) (c .before .before .loop-test .left) (c .before .word-ascii2 .ensures) (c .if3 .left)
 
 pub is-ascii-spec : {M : Type 1} → statement M
 is-ascii-spec =
@@ -55,4 +63,5 @@ is-ascii-spec =
     (λ c. search needs)
     loop-again
     (λ c κs. search needs)
-    returns-3)
+    returns-3
+    returns-4)

@@ -1,0 +1,37 @@
+-- Two numbers whose widths are the content's length.
+use mathlib.Core.Bool.{true}
+use mathlib.Core.Path.{_≡_, refl, sym}
+use mathlib.Core.List.{List, [], _∷_}
+use Prim.Native.Nat.{ℕ}
+use native.Mathlib.Omega.{arith}
+use lib.ListN.{length}
+use denote.Ref.{now}
+use Rattle.wire.specs.Integers.{Bytes, bigEndian}
+use Rattle.protocol.specs.Table.{table, rowIn}
+use Rattle.rules.specs.Reading.{readLayout}
+use Rattle.flat.specs.Flat.{padded}
+use Rattle.fast_reading.specs.Answer.{ReadsAs}
+use Rattle.fast_reading.proofs.Rows.{reads, done, link, unsigned-read}
+use borrow.Author.Needs.{needs}
+use Rattle.fast_reading.proofs.consuming.credit.Statement.{statement}
+use Rattle.fast_reading.proofs.consuming.credit.Tie as tie
+
+row : (s old : List ℕ) (a n : ℕ) → Bytes s → length s ≡ 3 → a ≡ bigEndian 1 s 0 → n ≡ bigEndian 2 s 1 → ReadsAs (readLayout 0x0009 1 s) old true (padded 24 (0x0009 ∷ 1 ∷ a ∷ n ∷ []))
+unfolding table rowIn
+row s old a n b l i j =
+    reads 0x0009 1 old _ refl
+    (link (unsigned-read s b 1 0xff 0 1 refl refl (omega arith))
+    (link (unsigned-read s b 2 0xffff 1 3 refl refl (omega arith)) done))
+    (sym l)
+    (rw (i, j))
+
+pub credit-spec : {M : Type 1} → statement M
+unfolding Bytes padded
+credit-spec =
+    tie.close
+    (tie.spec
+    (λ c. search needs)
+    (λ c κs. search needs)
+    (λ c κs. search needs)
+    (λ c κs. search needs)
+    (λ c. rw (c .first-six .ensures) (row (now (c .before .before .before .before .before .args .s)) (now (c .before .before .before .before .before .args .slots)) _ _ (λ i. omega (arith, c .before .before .before .before .shared-slice-known .given i)) (c .before .before .before .if1 .left) (c .before .before .number .ensures) (c .before .number2 .ensures))))

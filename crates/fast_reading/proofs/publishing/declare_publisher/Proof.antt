@@ -1,0 +1,53 @@
+-- Two numbers, then two texts that end with the content. A text of at most 256 bytes is a reference too.
+use mathlib.Core.Bool.{true, false}
+use mathlib.Core.Path.{_≡_, refl}
+use mathlib.Core.List.{List, [], _∷_}
+use Prim.Native.Nat.{ℕ, _+_, _-_, _≤_}
+use native.Mathlib.Omega.{arith}
+use lib.Dec.{eqb}
+use lib.ListN.{length}
+use denote.Ref.{now}
+use Rattle.wire.specs.Integers.{Bytes, bigEndian}
+use Rattle.protocol.specs.Table.{table, rowIn}
+use Rattle.rules.specs.Reading.{readLayout}
+use Rattle.flat.specs.Flat.{nullLength, padded}
+use Rattle.fast_reading.specs.Answer.{ReadsAs}
+use Rattle.fast_reading.proofs.Rows.{reads, done, link, unsigned-read, text-at, text-read, reference-read, TextAt}
+use borrow.Author.Needs.{needs}
+use borrow.Author.Tests.{ne-eqb}
+use Rattle.fast_reading.proofs.publishing.declare_publisher.Statement.{statement}
+use Rattle.fast_reading.proofs.publishing.declare_publisher.Tie as tie
+
+row : (s old : List ℕ) (a p r e : ℕ) → Bytes s → 5 ≤ length s → a ≡ bigEndian 4 s 0 → p ≡ bigEndian 1 s 4 → TextAt s 5 r → r ≤ 263 → TextAt s r e → e ≡ length s → ReadsAs (readLayout 0x0001 1 s) old true (padded 24 (0x0001 ∷ 1 ∷ a ∷ p ∷ 15 ∷ (r - 7) ∷ (r + 10) ∷ (e - r - 2) ∷ []))
+unfolding table rowIn
+row s old a p r e b l i j t h u k =
+    let f : r + 10 ≡ 8 + (r + 2) = omega arith in
+    let g : e - r - 2 ≡ e - (r + 2) = omega arith in
+    let n : eqb (r - 7) nullLength ≡ false = ne-eqb (r - 7) nullLength (λ z. omega (arith, z, h)) in
+    reads 0x0001 1 old _ refl
+    (link (unsigned-read s b 4 0xffff_ffff 0 4 refl refl (omega arith))
+    (link (unsigned-read s b 1 0xff 4 5 refl refl l)
+    (link (reference-read s 5 r t h)
+    (link (text-read s r e u) done))))
+    k
+    (rw (i, j, f, g, n))
+
+pub declare-publisher-spec : {M : Type 1} → statement M
+unfolding Bytes padded
+declare-publisher-spec =
+    tie.close
+    (tie.spec
+    (λ c. search needs)
+    (λ c κs. search needs)
+    (λ c κs. search needs)
+    (λ c κs. search needs)
+    (λ c. search needs)
+    (λ c. search needs)
+    (λ c κs. search needs)
+    (λ c. search needs)
+    (λ c. let t = text-at _ 5 _ (c .before .before .before .before .text-end .ensures) (c .before .before .before .if2 .left) in omega (arith, t .behind))
+    (λ c. let t = text-at _ _ _ (c .before .text-end2 .ensures) (λ z. omega arith) in omega (arith, t .behind))
+    (λ c. let t = text-at _ _ _ (c .before .text-end2 .ensures) (λ z. omega arith) in omega (arith, t .behind))
+    (λ c. search needs)
+    (λ c κs. search needs)
+    (λ c. rw (c .first-eight .ensures) (row (now (c .before .before .before .before .before .before .before .before .before .before .args .s)) (now (c .before .before .before .before .before .before .before .before .before .before .args .slots)) _ _ _ _ (λ i. omega (arith, c .before .before .before .before .before .before .before .before .before .shared-slice-known .given i)) (c .before .before .before .before .before .before .before .before .if1 .left) (c .before .before .before .before .before .before .before .number .ensures) (c .before .before .before .before .before .before .number2 .ensures) (text-at _ 5 _ (c .before .before .before .before .before .text-end .ensures) (c .before .before .before .before .if2 .left)) (c .before .before .before .if3 .left) (text-at _ _ _ (c .before .before .text-end2 .ensures) (λ z. omega arith)) (c .before .if4 .left))))
