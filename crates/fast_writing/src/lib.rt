@@ -1,4 +1,8 @@
 // Writing the most frequent frames straight from their slots.
+mod checks;
+mod consuming;
+mod publishing;
+mod puts;
 mod writing;
 
 pub use writing::Fast;

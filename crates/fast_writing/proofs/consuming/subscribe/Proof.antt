@@ -1,0 +1,119 @@
+-- The checks are those of the row, and its pieces are put one behind another.
+use borrow.Author.Tests.{not-false}
+use Rattle.fields.proofs.Steps.{put-next}
+use mathlib.Core.Path.{_∙_}
+use native.Mathlib.Omega.{arith}
+use lib.ListN.{getD}
+use Rattle.protocol.specs.Kinds.{elementRow}
+use Rattle.protocol.specs.declared.kind.Element.the-variants.{Property}
+use Rattle.rules.specs.Reading.{readRow}
+use Rattle.fast_writing.proofs.Chain.{frame-put, part-next, text-next, eight-next}
+use Rattle.fast_writing.proofs.Encoded.{all-read, subscribe-row}
+use borrow.Author.Needs.{needs}
+use Rattle.fast_writing.proofs.consuming.subscribe.Statement.{statement}
+use Rattle.fast_writing.proofs.consuming.subscribe.Tie as tie
+
+pub subscribe-spec : {M : Type 1} → statement M
+subscribe-spec =
+    tie.close
+    (tie.spec
+    (λ c. search needs)
+    (λ c. search needs)
+    (λ c. search needs)
+    (λ c. search needs)
+    (λ c. search needs)
+    (λ c. search needs)
+    (λ c. search needs)
+    (λ c. search needs)
+    (λ c. search needs)
+    (λ c. search needs)
+    (λ c. search needs)
+    (λ c κs. search needs)
+    (λ c. search needs)
+    (λ c. search needs)
+    (λ c. search needs)
+    (λ c. search needs)
+    (λ c. search needs)
+    (λ c κs. search needs)
+    (λ c. search needs)
+    (λ c. search needs)
+    (λ c.
+    let there = c .before in
+    let part = there .before in
+    let start = part .before .before .before .before .before .before .before .before .before .before .before .before .before .before .before .before .before .before .before .before in
+    omega (arith, part .is-part .ensures (not-false _ (there .if7 .left)) .there, start .good .1 .0 .0))
+    (λ c. search needs)
+    (λ c. search needs)
+    (λ c.
+    let there = c .before in
+    let part = there .before in
+    omega (arith, part .is-part .ensures (not-false _ (there .if7 .left)) .there))
+    (λ c κs. search needs)
+    (λ c. search needs)
+    (λ c.
+    let named = c .before .before .before .before .before .before .before .before .before .before in
+    let name = named .before in
+    omega (arith, name .is-text .ensures (not-false _ (named .if3 .left)) .short))
+    (λ c.
+    let there = c .before .before .before .before in
+    let part = there .before in
+    let named = part .before .before .before .before .before in
+    let name = named .before in
+    omega (arith, name .is-text .ensures (not-false _ (named .if3 .left)) .short, part .is-part .ensures (not-false _ (there .if7 .left)) .short))
+    (λ c κs. search needs)
+    (λ c. search needs)
+    (λ c κs. search needs)
+    (λ c κs. search needs)
+    (λ c κs. search needs)
+    (λ c κs. search needs)
+    (λ c κs. search needs)
+    (λ c κs. search needs)
+    (λ c κs. search needs)
+    (λ c κs. search needs)
+    (λ c κs. search needs)
+    (λ c.
+    let roomy = c .before .before .before .before .before .before .before .before .before .before .before .before .before .before .before .before .before .before .before .before .before .before .before .before .before .before .before .before .before .before .before .before .before .before .before .before in
+    let room = roomy .before in
+    omega (arith, room .fits2 .ensures (not-false _ (roomy .if10 .left)) .bound))
+    (λ c.
+    let o9 = c .before in
+    let o8 = o9 .before .before .before .before in
+    let o7 = o8 .before .before .before .before in
+    let o6 = o7 .before .before .before .before in
+    let o5 = o6 .before .before .before .before in
+    let o4 = o5 .before .before .before .before in
+    let o3 = o4 .before .before .before .before in
+    let o2 = o3 .before .before .before .before in
+    let o1 = o2 .before .before .before .before in
+    o9 .out9 .given ∙ o8 .out8 .given ∙ o7 .out7 .given ∙ o6 .out6 .given ∙ o5 .out5 .given ∙ o4 .out4 .given ∙ o3 .out3 .given ∙ o2 .out2 .given ∙ o1 .out .given)
+    (λ c.
+    let last = c .before .before in
+    let number = last .before .before .before .before in
+    let granted = number .before .before .before .before in
+    let offset = granted .before .before .before .before in
+    let type = offset .before .before .before .before in
+    let text = type .before .before .before .before in
+    let second = text .before .before .before .before in
+    let first = second .before .before .before .before in
+    let head = first .before .before .before .before in
+    let roomy = head .before .before in
+    let room = roomy .before in
+    let ended = room .before in
+    let properties = ended .before in
+    let few = properties .before .before in
+    let there = few .before in
+    let part = there .before in
+    let count = part .before in
+    let credit = count .before in
+    let from = credit .before in
+    let named = from .before .before in
+    let name = named .before in
+    let short = name .before in
+    let known = short .before in
+    let start = known .before .before .before .before .before .before .before .before .before .before .before .before in
+    let t = name .is-text .ensures (not-false _ (named .if3 .left)) in
+    let p = part .is-part .ensures (not-false _ (there .if7 .left)) in
+    let src = start .args .src .now in
+    let s = start .args .slots .now in
+    frame-put 0x0007 _ _ (start .args .out .now) _ _ _ _ (subscribe-row s src t p (known .if1 .left) (short .if2 .left) (from .if4 .left) (offset .put-eight .ensures .1) (credit .if5 .left) (count .if6 .left) (all-read (readRow (elementRow Property)) (getD s 9 0) src (getD s 10 0) (getD s 11 0) _ (properties .properties-end .ensures) (ended .if9 .left) (few .if8 .left))) (room .fits2 .ensures (not-false _ (roomy .if10 .left)))
+    (part-next src _ _ _ _ _ _ _ (p .there) (put-next _ _ _ _ _ _ (put-next _ _ _ _ _ _ (eight-next _ _ _ _ _ _ (put-next _ _ _ _ _ _ (text-next src _ _ _ _ _ _ _ (t .there) (put-next _ _ _ _ _ _ (put-next _ _ _ _ _ _ (head .put-head .ensures) (first .put-number .ensures)) (second .put-number2 .ensures)) (text .put-text .ensures)) (type .put-number3 .ensures)) (offset .put-eight .ensures .0)) (granted .put-number4 .ensures)) (number .put-number5 .ensures)) (last .put-bytes .ensures))))

@@ -1,0 +1,111 @@
+// What publishers send, and what confirms it.
+ghost use Rattle.fast_writing.specs.Answer.{WritesAs, writeRowOf};
+use crate::checks::fits;
+use crate::checks::is_part;
+use crate::checks::is_text;
+use crate::puts::put_head;
+use crate::puts::put_text;
+use crate::writing::Fast;
+use lists::messages_end;
+use wire::Width;
+
+// c u8 R? T
+pub fn declare_publisher(slots: &[u64; 24], src: &[u8], limit: u32, out: &mut [u8]) -> Fast
+    ensures { λ r. ⌜ WritesAs (writeRowOf 0x0001 1 (now (slots .entry)) (now (src .entry)) limit (now (out .entry))) (now (out .entry)) r (now (out .exit)) ⌝ }
+{
+    let correlation_id = slots[2];
+    let publisher_id = slots[3];
+    let reference = slots[4] as usize;
+    let reference_len = slots[5] as usize;
+    let stream = slots[6] as usize;
+    let stream_len = slots[7] as usize;
+    if 0xffff_ffff < correlation_id {
+        return Fast::Unwritten;
+    }
+    if 0xff < publisher_id {
+        return Fast::Unwritten;
+    }
+    if !is_text(src, reference, reference_len, 256) {
+        return Fast::Unwritten;
+    }
+    if !is_text(src, stream, stream_len, 0x7fff) {
+        return Fast::Unwritten;
+    }
+    let size = 13 + reference_len + stream_len;
+    if !fits(limit, size, out.len()) {
+        return Fast::Unwritten;
+    }
+    let next = put_head(out, size, 0x0001);
+    let next = wire::put_number(out, next, Width::Four, correlation_id);
+    let next = wire::put_number(out, next, Width::One, publisher_id);
+    let next = put_text(out, next, src, reference, reference_len);
+    put_text(out, next, src, stream, stream_len);
+    Fast::Length(size as u64 + 4)
+}
+
+// u8 [u64 B]
+pub fn publish(slots: &[u64; 24], src: &[u8], limit: u32, out: &mut [u8]) -> Fast
+    ensures { λ r. ⌜ WritesAs (writeRowOf 0x0002 1 (now (slots .entry)) (now (src .entry)) limit (now (out .entry))) (now (out .entry)) r (now (out .exit)) ⌝ }
+{
+    let publisher_id = slots[2];
+    let count = slots[3] as usize;
+    let at = slots[4] as usize;
+    let len = slots[5] as usize;
+    if 0xff < publisher_id {
+        return Fast::Unwritten;
+    }
+    if 0x7fff_ffff < count {
+        return Fast::Unwritten;
+    }
+    if !is_part(src, at, len) {
+        return Fast::Unwritten;
+    }
+    // No message is shorter than a byte, so none ends at 0, which is also the end where one is refused.
+    if len < count {
+        return Fast::Unwritten;
+    }
+    let end = at + len;
+    if messages_end(&src[at..end], 0, count) != len {
+        return Fast::Unwritten;
+    }
+    let size = 9 + len;
+    if !fits(limit, size, out.len()) {
+        return Fast::Unwritten;
+    }
+    let next = put_head(out, size, 0x0002);
+    let next = wire::put_number(out, next, Width::One, publisher_id);
+    let next = wire::put_number(out, next, Width::Four, count as u64);
+    wire::put_bytes(out, next, src, at, len);
+    Fast::Length(size as u64 + 4)
+}
+
+// u8 [u64]: elements of one width, which end where their count says.
+pub fn publish_confirm(slots: &[u64; 24], src: &[u8], limit: u32, out: &mut [u8]) -> Fast
+    ensures { λ r. ⌜ WritesAs (writeRowOf 0x0003 1 (now (slots .entry)) (now (src .entry)) limit (now (out .entry))) (now (out .entry)) r (now (out .exit)) ⌝ }
+{
+    let publisher_id = slots[2];
+    let count = slots[3] as usize;
+    let at = slots[4] as usize;
+    let len = slots[5] as usize;
+    if 0xff < publisher_id {
+        return Fast::Unwritten;
+    }
+    if 0x7fff_ffff < count {
+        return Fast::Unwritten;
+    }
+    if !is_part(src, at, len) {
+        return Fast::Unwritten;
+    }
+    if len != count * 8 {
+        return Fast::Unwritten;
+    }
+    let size = 9 + len;
+    if !fits(limit, size, out.len()) {
+        return Fast::Unwritten;
+    }
+    let next = put_head(out, size, 0x0003);
+    let next = wire::put_number(out, next, Width::One, publisher_id);
+    let next = wire::put_number(out, next, Width::Four, count as u64);
+    wire::put_bytes(out, next, src, at, len);
+    Fast::Length(size as u64 + 4)
+}
