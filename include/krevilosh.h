@@ -118,6 +118,9 @@ uint64_t krevilosh_element(uint8_t shape, const uint8_t *source, size_t source_l
  * Refusals: 4 for another key, 5 for another version, 6 for a place outside the source, 10 for a chunk of a type other
  * than 0, an index at or above its entries or an entry count above 65,535, then those of the entries up to and including
  * the one asked for.
+ * A call goes over the entries in front of the one that it is asked for. A host that walks a chunk of many messages can go
+ * from each to the next itself: in a frame that was read, the four bytes in front of a message are its length, big endian,
+ * and the next entry begins where the message ends, up to the end of the data.
  */
 uint64_t krevilosh_message(const uint64_t frame[24], const uint8_t *source, size_t source_len, uint64_t index,
                            uint64_t message[8]);
