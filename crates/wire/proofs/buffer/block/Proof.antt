@@ -1,16 +1,16 @@
 -- What was copied into the block is what is copied from it.
 use borrow.Author.Needs.{needs}
 use Rattle.wire.proofs.Splice.{by-block}
-use Rattle.wire.proofs.buffer.block_4096.Statement.{statement}
-use Rattle.wire.proofs.buffer.block_4096.Tie as tie
+use Rattle.wire.proofs.buffer.block.Statement.{statement}
+use Rattle.wire.proofs.buffer.block.Tie as tie
 
 returns : tie.Need-returns
 returns c =
     let e = c .before .before .before .before .before .before in
-    by-block _ _ _ _ _ _ _ 4096 (e .before .before .before .before .pre .1) (e .each .ensures) (c .before .before .each2 .ensures)
+    by-block _ _ _ _ _ _ _ _ (e .before .before .before .before .pre .1) (e .each .ensures) (c .before .before .each2 .ensures)
 
-pub block-4096-spec : {M : Type 1} → statement M
-block-4096-spec =
+pub block-spec : {M : Type 1} → statement M
+block-spec =
     tie.close
     (tie.spec
     (λ c. search needs)
