@@ -1,5 +1,6 @@
 //! Times each call of the library, through its C boundary, beside the same call of the reference. Each crosses one call that
-//! is not inlined: the library's at the boundary, the reference's at the function here.
+//! is not inlined: the library's at the boundary, the reference's at the function here. Neither side knows an argument
+//! beforehand.
 
 use std::hint::black_box;
 
@@ -7,74 +8,44 @@ use bench::times;
 use boundary::{Archive, Boundary, ElementSlots, Frame, Ledger, List};
 use reference::Refusal;
 
-#[inline(always)]
-fn library_read(bytes: &[u8], frame: &mut Frame) -> u64 {
-    Archive.read(bytes, 0, frame)
+const LIMIT: u32 = 0;
+const MESSAGE: u8 = 1;
+const LAST: u64 = 99;
+const ID: u8 = 7;
+
+#[inline(never)]
+fn read(bytes: &[u8], limit: u32) -> Result<Frame, Refusal> {
+    reference::read(bytes, limit)
 }
 
 #[inline(never)]
-fn reference_read(bytes: &[u8]) -> Result<Frame, Refusal> {
-    reference::read(bytes, 0)
-}
-
-#[inline(always)]
-fn library_write(frame: &Frame, source: &[u8], out: &mut [u8]) -> u64 {
-    Archive.write(frame, source, 0, out)
+fn write(frame: &Frame, source: &[u8], limit: u32, out: &mut [u8]) -> Result<usize, Refusal> {
+    reference::write(frame, source, limit, out)
 }
 
 #[inline(never)]
-fn reference_write(frame: &Frame, source: &[u8], out: &mut [u8]) -> Result<usize, Refusal> {
-    reference::write(frame, source, 0, out)
-}
-
-#[inline(always)]
-fn library_element(source: &[u8], list: List, index: u64, element: &mut ElementSlots) -> u64 {
-    Archive.element(1, source, list, index, element)
+fn element(shape: u8, source: &[u8], list: List, index: u64) -> Result<ElementSlots, Refusal> {
+    reference::element(shape, source, list.count, list.place, list.length, index)
 }
 
 #[inline(never)]
-fn reference_element(source: &[u8], list: List, index: u64) -> Result<ElementSlots, Refusal> {
-    reference::element(1, source, list.count, list.place, list.length, index)
-}
-
-#[inline(always)]
-fn library_open(ledger: &mut Ledger) -> u64 {
-    Archive.credit_open(ledger, 7, 10)
+fn open(ledger: &mut Ledger, id: u8, credit: u16) -> Result<(), Refusal> {
+    reference::credit::open(ledger, id, credit)
 }
 
 #[inline(never)]
-fn reference_open(ledger: &mut Ledger) -> Result<(), Refusal> {
-    reference::credit::open(ledger, 7, 10)
-}
-
-#[inline(always)]
-fn library_close(ledger: &mut Ledger) -> u64 {
-    Archive.credit_close(ledger, 7)
+fn close(ledger: &mut Ledger, id: u8) -> Result<(), Refusal> {
+    reference::credit::close(ledger, id)
 }
 
 #[inline(never)]
-fn reference_close(ledger: &mut Ledger) -> Result<(), Refusal> {
-    reference::credit::close(ledger, 7)
-}
-
-#[inline(always)]
-fn library_grant(ledger: &mut Ledger) -> u64 {
-    Archive.credit_grant(ledger, 7, 1)
+fn grant(ledger: &mut Ledger, id: u8, n: u16) -> Result<(), Refusal> {
+    reference::credit::grant(ledger, id, n)
 }
 
 #[inline(never)]
-fn reference_grant(ledger: &mut Ledger) -> Result<(), Refusal> {
-    reference::credit::grant(ledger, 7, 1)
-}
-
-#[inline(always)]
-fn library_receive(ledger: &mut Ledger, bytes: &[u8], frame: &mut Frame) -> u64 {
-    Archive.credit_receive(ledger, bytes, 0, frame)
-}
-
-#[inline(never)]
-fn reference_receive(ledger: &mut Ledger, bytes: &[u8]) -> Result<Frame, Refusal> {
-    reference::credit::receive(ledger, bytes, 0)
+fn receive(ledger: &mut Ledger, bytes: &[u8], limit: u32) -> Result<Frame, Refusal> {
+    reference::credit::receive(ledger, bytes, limit)
 }
 
 fn row(name: &str, (library, reference): (f64, f64)) {
@@ -108,78 +79,89 @@ fn main() {
 
 fn read_times(bytes: &[u8]) -> (f64, f64) {
     let mut frame = [0; 24];
-    assert_eq!(library_read(bytes, &mut frame), 0);
-    assert_eq!(reference_read(bytes), Ok(frame));
+    assert_eq!(Archive.read(bytes, LIMIT, &mut frame), 0);
+    assert_eq!(read(bytes, LIMIT), Ok(frame));
     times(
         || {
-            black_box(library_read(black_box(bytes), black_box(&mut frame)));
+            black_box(Archive.read(black_box(bytes), black_box(LIMIT), black_box(&mut frame)));
         },
         || {
-            black_box(reference_read(black_box(bytes))).ok();
+            black_box(read(black_box(bytes), black_box(LIMIT))).ok();
         },
     )
 }
 
 fn write_times(bytes: &[u8]) -> (f64, f64) {
-    let frame = reference_read(bytes).expect("the frame is well formed");
+    let frame = read(bytes, LIMIT).expect("the frame is well formed");
     let (mut a, mut b) = (vec![0; bytes.len()], vec![0; bytes.len()]);
-    assert_eq!(library_write(&frame, bytes, &mut a), (bytes.len() as u64) << 8);
-    assert_eq!(reference_write(&frame, bytes, &mut b), Ok(bytes.len()));
+    assert_eq!(Archive.write(&frame, bytes, LIMIT, &mut a), (bytes.len() as u64) << 8);
+    assert_eq!(write(&frame, bytes, LIMIT, &mut b), Ok(bytes.len()));
     assert!(a == bytes && b == bytes);
     times(
         || {
-            black_box(library_write(black_box(&frame), black_box(bytes), black_box(&mut a)));
+            black_box(Archive.write(
+                black_box(&frame),
+                black_box(bytes),
+                black_box(LIMIT),
+                black_box(&mut a),
+            ));
         },
         || {
-            black_box(reference_write(black_box(&frame), black_box(bytes), black_box(&mut b))).ok();
+            black_box(write(black_box(&frame), black_box(bytes), black_box(LIMIT), black_box(&mut b))).ok();
         },
     )
 }
 
 fn element_times(bytes: &[u8]) -> (f64, f64) {
-    let frame = reference_read(bytes).expect("the frame is well formed");
+    let frame = read(bytes, LIMIT).expect("the frame is well formed");
     let list = List { count: frame[3], place: frame[4], length: frame[5] };
-    let mut element = [0; 8];
-    assert_eq!(library_element(bytes, list, 99, &mut element), 0);
-    assert_eq!(reference_element(bytes, list, 99), Ok(element));
+    let mut slots = [0; 8];
+    assert_eq!(Archive.element(MESSAGE, bytes, list, LAST, &mut slots), 0);
+    assert_eq!(element(MESSAGE, bytes, list, LAST), Ok(slots));
     times(
         || {
-            black_box(library_element(black_box(bytes), black_box(list), 99, black_box(&mut element)));
+            black_box(Archive.element(
+                black_box(MESSAGE),
+                black_box(bytes),
+                black_box(list),
+                black_box(LAST),
+                black_box(&mut slots),
+            ));
         },
         || {
-            black_box(reference_element(black_box(bytes), black_box(list), 99)).ok();
+            black_box(element(black_box(MESSAGE), black_box(bytes), black_box(list), black_box(LAST))).ok();
         },
     )
 }
 
 fn open_close_times() -> (f64, f64) {
     let (mut a, mut b) = ([0; 257], [0; 257]);
-    assert_eq!((library_open(&mut a), library_close(&mut a)), (0, 0));
-    assert_eq!((reference_open(&mut b), reference_close(&mut b)), (Ok(()), Ok(())));
+    assert_eq!((Archive.credit_open(&mut a, ID, 10), Archive.credit_close(&mut a, ID)), (0, 0));
+    assert_eq!((open(&mut b, ID, 10), close(&mut b, ID)), (Ok(()), Ok(())));
     times(
         || {
-            black_box(library_open(black_box(&mut a)));
-            black_box(library_close(black_box(&mut a)));
+            black_box(Archive.credit_open(black_box(&mut a), black_box(ID), black_box(10)));
+            black_box(Archive.credit_close(black_box(&mut a), black_box(ID)));
         },
         || {
-            black_box(reference_open(black_box(&mut b))).ok();
-            black_box(reference_close(black_box(&mut b))).ok();
+            black_box(open(black_box(&mut b), black_box(ID), black_box(10))).ok();
+            black_box(close(black_box(&mut b), black_box(ID))).ok();
         },
     )
 }
 
 fn grant_times() -> (f64, f64) {
     let (mut a, mut b) = ([1; 257], [1; 257]);
-    assert_eq!(library_grant(&mut a), 0);
-    assert_eq!(reference_grant(&mut b), Ok(()));
+    assert_eq!(Archive.credit_grant(&mut a, ID, 1), 0);
+    assert_eq!(grant(&mut b, ID, 1), Ok(()));
     times(
         || {
-            a[7] = 1;
-            black_box(library_grant(black_box(&mut a)));
+            a[usize::from(ID)] = 1;
+            black_box(Archive.credit_grant(black_box(&mut a), black_box(ID), black_box(1)));
         },
         || {
-            b[7] = 1;
-            black_box(reference_grant(black_box(&mut b))).ok();
+            b[usize::from(ID)] = 1;
+            black_box(grant(black_box(&mut b), black_box(ID), black_box(1))).ok();
         },
     )
 }
@@ -187,16 +169,21 @@ fn grant_times() -> (f64, f64) {
 fn receive_times(bytes: &[u8]) -> (f64, f64) {
     let mut frame = [0; 24];
     let (mut a, mut b) = ([9; 257], [9; 257]);
-    assert_eq!(library_receive(&mut a, bytes, &mut frame), 0);
-    assert_eq!(reference_receive(&mut b, bytes), Ok(frame));
+    assert_eq!(Archive.credit_receive(&mut a, bytes, LIMIT, &mut frame), 0);
+    assert_eq!(receive(&mut b, bytes, LIMIT), Ok(frame));
     times(
         || {
-            a[7] = 9;
-            black_box(library_receive(black_box(&mut a), black_box(bytes), black_box(&mut frame)));
+            a[usize::from(ID)] = 9;
+            black_box(Archive.credit_receive(
+                black_box(&mut a),
+                black_box(bytes),
+                black_box(LIMIT),
+                black_box(&mut frame),
+            ));
         },
         || {
-            b[7] = 9;
-            black_box(reference_receive(black_box(&mut b), black_box(bytes))).ok();
+            b[usize::from(ID)] = 9;
+            black_box(receive(black_box(&mut b), black_box(bytes), black_box(LIMIT))).ok();
         },
     )
 }

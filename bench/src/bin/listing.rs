@@ -6,7 +6,7 @@ use std::io::{self, Write};
 use std::process::{Command, ExitCode, Stdio};
 use std::time::Instant;
 
-const REPEATS: usize = 3;
+const REPEATS: usize = 15;
 
 fn main() -> ExitCode {
     let mut arguments = std::env::args().skip(1);
@@ -16,8 +16,9 @@ fn main() -> ExitCode {
     };
     let bytes = arguments.next().and_then(|number| number.parse().ok()).unwrap_or(1_000_000_000);
     match measure(&program, bytes) {
-        Ok((listing, wc)) => {
-            println!("listing of {bytes} bytes: {listing:.2} s, wc -c: {wc:.2} s, ratio {:.2}", listing / wc);
+        Ok(pairs) => {
+            let [listing, wc, ratio] = medians(pairs);
+            println!("listing of {bytes} bytes: {listing:.2} s, wc -c: {wc:.2} s, ratio {ratio:.2}");
             ExitCode::SUCCESS
         }
         Err(error) => {
@@ -27,15 +28,21 @@ fn main() -> ExitCode {
     }
 }
 
-/// Seconds of the program and of `wc -c`, medians over repeats that take turns.
-fn measure(program: &str, bytes: usize) -> io::Result<(f64, f64)> {
+/// Seconds of the program and of `wc -c`, one right after the other.
+fn measure(program: &str, bytes: usize) -> io::Result<Vec<(f64, f64)>> {
     let deliver = bench::deliver(300, 200);
-    let (mut listing, mut wc) = (Vec::new(), Vec::new());
-    for _ in 0..REPEATS {
-        listing.push(seconds(&mut Command::new(program), &deliver, bytes)?);
-        wc.push(seconds(Command::new("wc").arg("-c"), &deliver, bytes)?);
-    }
-    Ok((bench::median(listing), bench::median(wc)))
+    (0..REPEATS)
+        .map(|_| {
+            let listing = seconds(&mut Command::new(program), &deliver, bytes)?;
+            Ok((listing, seconds(Command::new("wc").arg("-c"), &deliver, bytes)?))
+        })
+        .collect()
+}
+
+/// The medians of both, and of the ratio of each pair: what slows the machine for a while slows both of a pair.
+fn medians(pairs: Vec<(f64, f64)>) -> [f64; 3] {
+    [|(listing, _)| listing, |(_, wc)| wc, |(listing, wc)| listing / wc]
+        .map(|of: fn((f64, f64)) -> f64| bench::median(pairs.iter().copied().map(of).collect()))
 }
 
 /// How long a program takes to read so many bytes, in whole frames, from a pipe.
