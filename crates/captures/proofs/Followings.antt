@@ -21,6 +21,9 @@ use Rattle.rules.proofs.Heads.{Head, head}
 use Rattle.rules.specs.Exactness.{frameLength}
 use Rattle.rules.specs.Outcome.{Outcome, got, refused as unread}
 use Rattle.rules.specs.Reading.{Reading, frame, short, refusal, readContent, readingOf, readLayout, readDecided, overLimit, readSized, readFrame}
+use Rattle.frame_reading.specs.Answer.{told}
+use Rattle.frame_reading.specs.declared.reading.FrameRead.the-variants.{Frame}
+use Rattle.frame_reading.proofs.Told.{frame-told}
 use Rattle.captures.specs.Text.{joined}
 use Rattle.captures.specs.Listing.{limit, Next, framed, whole, cut, refused, more, nextOf, following, WindowTells, MoreIsShort, frameLine, linesFrom, lines, linesOf, LinesUnfold}
 use Rattle.rules.proofs.Beyond.{answer-stays}
@@ -37,8 +40,10 @@ something-left [] ended t r n e h = absurd (n refl)
 something-left (b ∷ s) ended t r n e h = rw h (ap (λ (x : Reading). nextOf x t (length (b ∷ s)) (frameLength (b ∷ s))) e)
 
 -- The line of a frame tells what its first eight bytes say.
-pub frame-left : (s : List ℕ) (ended : Bool) (f : Fields Place) (size key version : ℕ) → (length s ≡ 0 → ⊥) → frame f ≡ readFrame s limit → (8 ≤ length s → size ≡ bigEndian 4 s 0) → (8 ≤ length s → key ≡ bigEndian 2 s 4) → (8 ≤ length s → version ≡ bigEndian 2 s 6) → framed (size + 4) key version ≡ following s ended
-frame-left s ended f size key version n e a b c =
+pub frame-left : (s : List ℕ) (ended : Bool) (size key version : ℕ) → (length s ≡ 0 → ⊥) → Frame ≡ told (readFrame s limit) → (8 ≤ length s → size ≡ bigEndian 4 s 0) → (8 ≤ length s → key ≡ bigEndian 2 s 4) → (8 ≤ length s → version ≡ bigEndian 2 s 6) → framed (size + 4) key version ≡ following s ended
+frame-left s ended size key version n i a b c =
+    let f = frame-told (readFrame s limit) i .0 in
+    let e = frame-told (readFrame s limit) i .1 in
     let h : Head s (frame f) = subst (Head s) (sym e) (head s limit) in
     let g : framed (frameLength s) (f .key) (f .version) ≡ following s ended = something-left s ended ended (frame f) n e refl in
     let l : 8 ≤ length s = omega (arith, h .0, h .1) in
@@ -69,28 +74,28 @@ window-tells (b ∷ s) rest =
     tells (b ∷ s) rest (λ z. absurd (omega (arith, z))) (λ z. absurd (omega (arith, z, length-append (b ∷ s) rest))) (readFrame (b ∷ s) limit) refl (answer-stays (b ∷ s) rest limit)
 
 -- What is short of a frame is shorter than the longest one: Size is looked at before the frame's end.
-abbrev Short : List ℕ → Reading → Type 0
-Short s (frame f) = Unit
-Short s (short n) = length s < limit + 4
-Short s (refusal n p) = Unit
+abbrev InPart : List ℕ → Reading → Type 0
+InPart s (frame f) = Unit
+InPart s (short n) = length s < limit + 4
+InPart s (refusal n p) = Unit
 
-decided-short : (s : List ℕ) (d : Decision) (content : List ℕ) → Short s (readDecided d content)
+decided-short : (s : List ℕ) (d : Decision) (content : List ℕ) → InPart s (readDecided d content)
 unfolding readDecided readLayout
 decided-short s (layout k v) content = by (readContent (rowOf k v) content)
   where
-    by : (o : Outcome (List (Field Place))) → Short s (readingOf k v o)
+    by : (o : Outcome (List (Field Place))) → InPart s (readingOf k v o)
     by (got fs behind) = tt
     by (unread n p) = tt
 decided-short s unlistedKey content = tt
 decided-short s unlistedVersion content = tt
 
-short-frame : (s : List ℕ) → Short s (readFrame s limit)
+short-frame : (s : List ℕ) → InPart s (readFrame s limit)
 unfolding readFrame readSized
 short-frame s =
-    choice (Short s) (ltb (length s) 4) _ _ (λ e. let l = ltb-true (length s) 4 e in omega (arith, l)) (λ _.
-    choice (Short s) (overLimit limit (bigEndian 4 s 0)) _ _ (λ _. tt) (λ o.
-    choice (Short s) (ltb (bigEndian 4 s 0) 4) _ _ (λ _. tt) (λ _.
-    choice (Short s) (ltb (length s) (bigEndian 4 s 0 + 4)) _ _ (λ e. let l = ltb-true (length s) (bigEndian 4 s 0 + 4) e in let m = ltb-false limit (bigEndian 4 s 0) o in omega (arith, l, m)) (λ _.
+    choice (InPart s) (ltb (length s) 4) _ _ (λ e. let l = ltb-true (length s) 4 e in omega (arith, l)) (λ _.
+    choice (InPart s) (overLimit limit (bigEndian 4 s 0)) _ _ (λ _. tt) (λ o.
+    choice (InPart s) (ltb (bigEndian 4 s 0) 4) _ _ (λ _. tt) (λ _.
+    choice (InPart s) (ltb (length s) (bigEndian 4 s 0 + 4)) _ _ (λ e. let l = ltb-true (length s) (bigEndian 4 s 0 + 4) e in let m = ltb-false limit (bigEndian 4 s 0) o in omega (arith, l, m)) (λ _.
     decided-short s (decide (bigEndian 2 s 4) (bigEndian 2 s 6)) _))))
 
 pub more-is-short : MoreIsShort
@@ -98,7 +103,7 @@ unfolding following
 more-is-short [] ended e = omega arith
 more-is-short (b ∷ s) ended e = by ended (readFrame (b ∷ s) limit) (short-frame (b ∷ s)) e
   where
-    by : (ended : Bool) (r : Reading) → Short (b ∷ s) r → nextOf r ended (length (b ∷ s)) (frameLength (b ∷ s)) ≡ more → length (b ∷ s) < limit + 4
+    by : (ended : Bool) (r : Reading) → InPart (b ∷ s) r → nextOf r ended (length (b ∷ s)) (frameLength (b ∷ s)) ≡ more → length (b ∷ s) < limit + 4
     by ended (frame f) h e = absurd (let o : _≡_ {A = ℕ} 0 1 = cc in omega arith)
     by ended (short n) h e = h
     by ended (refusal n p) h e = absurd (let o : _≡_ {A = ℕ} 0 1 = cc in omega arith)

@@ -5,7 +5,7 @@ ghost use Rattle.captures.specs.Answer.{nextOf};
 use fields::Cursor;
 use fields::u16_field;
 use fields::u32_field;
-use layouts::Reading;
+use frame_reading::FrameRead;
 
 // The frame limit of a listing.
 const LIMIT: u32 = 65532;
@@ -32,8 +32,9 @@ pub fn next_frame(rest: &[u8], ended: bool) -> Next
         }
         return Next::More;
     }
-    match frame_reading::read(rest, LIMIT) {
-        Reading::Frame(frame) => {
+    let mut slots = [0u64; 24];
+    match frame_reading::read(rest, LIMIT, &mut slots) {
+        FrameRead::Frame => {
             let size = u32_field(rest, Cursor::within(0));
             let key = u16_field(rest, Cursor::within(4));
             let version = u16_field(rest, Cursor::within(6));
@@ -43,7 +44,7 @@ pub fn next_frame(rest: &[u8], ended: bool) -> Next
                 version: version.value,
             }
         }
-        Reading::Short { needed } => {
+        FrameRead::Short { needed } => {
             if ended {
                 return Next::Cut {
                     left: rest.len() as u64,
@@ -52,6 +53,6 @@ pub fn next_frame(rest: &[u8], ended: bool) -> Next
             }
             Next::More
         }
-        Reading::Refused { number, place } => Next::Refused { number: number },
+        FrameRead::Refused { number, place: _ } => Next::Refused { number: number },
     }
 }

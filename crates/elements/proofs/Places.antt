@@ -1,14 +1,13 @@
--- Places and the source that they lie in: a start and a length are compared with what is left, so no sum overflows, and a
--- place that was read lies within its part. Assumes nothing.
-use mathlib.Core.Path.{_≡_, refl, _∙_, sym, ap, subst}
+-- Places and the source that they lie in: a place that is not outside ends within it, and one that was read ends within its
+-- part. Assumes nothing.
+use mathlib.Core.Path.{_≡_, _∙_, sym, ap, subst}
 use mathlib.Core.Bool.{Bool, true, false}
 use mathlib.Core.List.{List}
 use mathlib.Core.Option.{Option, none, some, Option·map}
 use Prim.Native.Nat.{ℕ, _+_, _-_, _<_, _≤_}
 use native.Mathlib.Omega.{arith}
-use lib.Dec.{ltb}
 use lib.ListN.{length, take, drop}
-use borrow.Author.Tests.{lt-ltb, le-ltb, ltb-true, ltb-false}
+use borrow.Author.Tests.{ltb-false}
 use Rattle.protocol.specs.Fields.{Field, place, bytesAt, outside, further, EndsBy}
 use Rattle.protocol.specs.Frames.{placeField, nullableField, listField}
 use Rattle.protocol.specs.Kinds.{Kind, unsigned, signed, string, specification, list, chunk}
@@ -21,25 +20,10 @@ use Rattle.rules.specs.Reading.{readField}
 use Rattle.rules.proofs.Gives.{Gives}
 use Rattle.rules.proofs.Inside.{inside-field}
 use Rattle.rules.proofs.Parts.{length-part}
-use Rattle.fields.specs.Cursor.{from, foundOr, moved, blank, Reads}
+use Rattle.fields.specs.Cursor.{foundOr, moved, blank, Reads}
 use Rattle.fields.specs.declared.cursor.Cursor.{Cursor}
 use Rattle.fields.proofs.Landing.{fresh, stays, by-refused}
 use Rattle.elements.specs.Answer.{NullableFits}
-
--- ---- Outside the source
-
-pub starts-beyond : (s : List ℕ) (p : Place) → length s < p .at → true ≡ outside p s
-starts-beyond s p h = sym (lt-ltb (length s) (p .at + p .len) (sum (p .at) (p .len) h))
-  where
-    sum : (a l : ℕ) → length s < a → length s < a + l
-    sum a l h = omega (arith, h)
-
-pub longer-than-the-rest : (n a l : ℕ) → a ≤ n → ltb (n - a) l ≡ ltb n (a + l)
-longer-than-the-rest n a l h = by (ltb (n - a) l) refl
-  where
-    by : (t : Bool) → ltb (n - a) l ≡ t → t ≡ ltb n (a + l)
-    by true e = let k = ltb-true (n - a) l e in sym (lt-ltb n (a + l) (omega (arith, h, k)))
-    by false e = let k = ltb-false (n - a) l e in sym (le-ltb n (a + l) (omega (arith, h, k)))
 
 pub within : (s : List ℕ) (p : Place) (b : Bool) → b ≡ outside p s → b ≡ false → p .at + p .len ≤ length s
 within s p b e h = ltb-false _ _ (sym e ∙ h)

@@ -7,11 +7,11 @@ ghost use Rattle.rules.specs.Elements.{asked, messageAt, messagePart, numberOf,
 ghost use Rattle.rules.specs.Outcome.{mapped};
 ghost use Rattle.rules.specs.Reading.{readEntry};
 ghost use Rattle.elements.specs.Answer.{placeAnswer};
-use crate::parts::is_outside;
 use crate::parts::part;
 use chunks::read_entry;
 use chunks::skip_entries;
 use fields::Cursor;
+use fields::is_outside;
 use protocol::Chunk;
 use protocol::Place;
 use protocol::refusal;

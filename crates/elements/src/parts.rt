@@ -1,8 +1,8 @@
 // Parts of the caller's bytes (01: text, a message or a property "comes back as a part of the caller's own bytes").
 ghost use mathlib.Core.Path.{_≡_};
-ghost use Rattle.protocol.specs.Fields.{outside};
 ghost use Rattle.rules.specs.Elements.{partAt};
 ghost use Rattle.elements.specs.Answer.{nullablePart};
+use fields::is_outside;
 use protocol::NullablePlace;
 use protocol::Place;
 
@@ -26,15 +26,4 @@ pub fn nullable_part(s: &[u8], p: NullablePlace) -> &[u8]
         NullablePlace::Null => &s[..0],
         NullablePlace::At(place) => part(s, place),
     }
-}
-
-// Whether a place reaches outside the source. The sum of start and length may be too large for a usize: outside too.
-pub(crate) fn is_outside(s: &[u8], p: Place) -> bool
-    ensures { λ r. ⌜ r ≡ outside p (now (s .entry)) ⌝ }
-{
-    let at = p.at;
-    if s.len() < at {
-        return true;
-    }
-    s.len() - at < p.len
 }

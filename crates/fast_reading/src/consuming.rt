@@ -4,12 +4,11 @@ ghost use Rattle.protocol.specs.Decision.{decide};
 ghost use Rattle.rules.specs.Reading.{readDecided, readLayout};
 ghost use Rattle.fast_reading.specs.Answer.{ReadsAs};
 ghost use Rattle.fast_reading.specs.Chunk.{OpenIf, chunkAt};
-use crate::numbers::eight;
-use crate::numbers::number;
-use crate::numbers::widened8;
-use crate::numbers::widened32;
+use crate::number;
 use crate::slots::first_eight;
 use crate::slots::first_six;
+use crate::widened8;
+use crate::widened32;
 use chunks::entries_end;
 use fields::text_end;
 use lists::properties_end;
@@ -48,7 +47,7 @@ pub fn subscribe(s: &[u8], slots: &mut [u64; 24]) -> bool
     if kind != 4 {
         return false;
     }
-    let value = eight(s, offset + 2);
+    let value = number(s, offset + 2, Width::Eight);
     let credit = number(s, offset + 10, Width::Two);
     let count = number(s, offset + 12, Width::Four);
     if 0x7fff_ffff < count {
@@ -93,9 +92,9 @@ pub fn deliver(s: &[u8], version: u64, slots: &mut [u64; 24]) -> bool
     let magic = widened8(number(s, at, Width::One));
     let entries = number(s, at + 2, Width::Two);
     let records = number(s, at + 4, Width::Four);
-    let timestamp = eight(s, at + 8);
-    let epoch = eight(s, at + 16);
-    let first_offset = eight(s, at + 24);
+    let timestamp = number(s, at + 8, Width::Eight);
+    let epoch = number(s, at + 16, Width::Eight);
+    let first_offset = number(s, at + 24, Width::Eight);
     let checksum = widened32(number(s, at + 32, Width::Four));
     let data_length = number(s, at + 36, Width::Four);
     let trailer_length = number(s, at + 40, Width::Four);
@@ -130,7 +129,7 @@ pub fn deliver(s: &[u8], version: u64, slots: &mut [u64; 24]) -> bool
         ];
         return true;
     }
-    let committed_chunk_id = eight(s, 1);
+    let committed_chunk_id = number(s, 1, Width::Eight);
     *slots = [
         0x0008,
         2,

@@ -1,7 +1,7 @@
 // What publishers send, and what confirms it.
 ghost use Rattle.rules.specs.Reading.{readLayout};
 ghost use Rattle.fast_reading.specs.Answer.{ReadsAs};
-use crate::numbers::number;
+use crate::number;
 use crate::slots::first_eight;
 use crate::slots::first_six;
 use fields::text_end;

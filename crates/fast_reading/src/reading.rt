@@ -8,7 +8,7 @@ use crate::connection::open;
 use crate::consuming::credit;
 use crate::consuming::deliver;
 use crate::consuming::subscribe;
-use crate::numbers::number;
+use crate::number;
 use crate::publishing::declare_publisher;
 use crate::publishing::publish;
 use crate::publishing::publish_confirm;

@@ -6,7 +6,7 @@ use native.Mathlib.Nat.{mod-eq-of-lt}
 use native.Mathlib.Omega.{arith}
 use mathlib.Core.Bool.{Bool, true, false}
 use borrow.Author.Tests.{lt-ltb, le-ltb, ltb-true, ltb-false}
-use lib.Dec.{eqb, ltb}
+use lib.Dec.{ltb}
 use lib.IntN.{ℤ, pos}
 use lib.ListN.{length}
 use Rattle.wire.specs.Integers.{bigEndian, numberAt, Bytes}
@@ -14,8 +14,7 @@ use Rattle.wire.specs.declared.integers.Number.the-variants.{Value, Cut}
 use Rattle.wire.proofs.Widths.{integers, positive, is-there, is-cut}
 use Rattle.wire.specs.Signed.{signed}
 use Rattle.protocol.specs.Fields.{Field, number, integer}
-use Rattle.protocol.specs.Frames.{flagField}
-use Rattle.protocol.specs.Kinds.{unsigned, i64, active}
+use Rattle.protocol.specs.Kinds.{unsigned, i64}
 use Rattle.protocol.specs.Refusals.{fieldCut, valueNotAdmitted}
 use Rattle.protocol.specs.declared.place.Place.{Place}
 use Rattle.rules.specs.Outcome.{Outcome, got, refused, then, refuseIf, mapped}
@@ -147,42 +146,37 @@ module _ (s : List ℕ) (c : Cursor) where
         behind = rw signed-from (a .1 ∙ landed-mapped signed-field (c .base) (from (readNumber 8) s c));
       }
 
--- Active: the number, and then whether its value is admitted.
-module _ (s : List ℕ) (c : Cursor) where
+-- The number, and then whether its value is admitted.
+module _ (n most : ℕ) (s : List ℕ) (c : Cursor) where
   admitted : ℕ → ℕ → Outcome (Field Place)
-  admitted x next = refuseIf (ltb 1 x) valueNotAdmitted (c .at) (got (number x) next)
+  admitted x next = refuseIf (ltb most x) valueNotAdmitted (c .at) (got (number x) next)
 
-  active-from : from (readField active) s c ≡ then (from (readNumber 1) s c) admitted
+  admitted-from : from (readField (unsigned n most)) s c ≡ then (from (readNumber n) s c) admitted
   unfolding readField readUnsigned admitted
-  active-from =
+  admitted-from =
       by-refused c
-      (λ h. rw (fresh (readField active) s c h, fresh (readNumber 1) s c h))
-      (λ h. rw (stays (readField active) s c h, stays (readNumber 1) s c h))
+      (λ h. rw (fresh (readField (unsigned n most)) s c h, fresh (readNumber n) s c h))
+      (λ h. rw (stays (readField (unsigned n most)) s c h, stays (readNumber n) s c h))
 
-  too-large : (o : Outcome ℕ) → 1 < foundOr 0 o → then o admitted ≡ refused valueNotAdmitted (c .at)
+  too-large : (o : Outcome ℕ) → most < foundOr 0 o → then o admitted ≡ refused valueNotAdmitted (c .at)
   unfolding admitted
-  too-large (got x next) h = rw (lt-ltb 1 x h)
-  too-large (refused n at) h = absurd (omega arith)
+  too-large (got x next) h = rw (lt-ltb most x h)
+  too-large (refused m at) h = absurd (omega arith)
 
-  small-enough : (o : Outcome ℕ) → foundOr 0 o ≤ 1 → then o admitted ≡ mapped number o
+  small-enough : (o : Outcome ℕ) → foundOr 0 o ≤ most → then o admitted ≡ mapped number o
   unfolding admitted
-  small-enough (got x next) h = rw (le-ltb 1 x h)
-  small-enough (refused n at) h = refl
+  small-enough (got x next) h = rw (le-ltb most x h)
+  small-enough (refused m at) h = refl
 
-  flag : (v : ℕ) → v ≤ 1 → flagField (eqb v 1) ≡ number v
-  flag zero h = refl
-  flag (suc zero) h = refl
-  flag (suc (suc v)) h = absurd (omega arith)
+  pub not-admitted : (v : ℕ) (d e : Cursor) → NumberAt n s c v d → most < v → e ≡ cursor (c .base) (c .at) valueNotAdmitted → Reads (unsigned n most) s c (number 0) e
+  not-admitted v d e a h f =
+      let t = too-large (from (readNumber n) s c) (rw (← a .0) h) in
+      record { read = rw (admitted-from, t); behind = rw (admitted-from, t) f }
 
-  pub active-refused : (v : ℕ) (d e : Cursor) → NumberAt 1 s c v d → 1 < v → e ≡ cursor (c .base) (c .at) valueNotAdmitted → Reads active s c (flagField false) e
-  active-refused v d e a h f =
-      let t = too-large (from (readNumber 1) s c) (rw (← a .0) h) in
-      record { read = rw (active-from, t); behind = rw (active-from, t) f }
-
-  pub active-reads : (v : ℕ) (d : Cursor) → NumberAt 1 s c v d → v ≤ 1 → Reads active s c (flagField (eqb v 1)) d
-  active-reads v d a h =
-      let t = small-enough (from (readNumber 1) s c) (rw (← a .0) h) in
+  pub is-admitted : (v : ℕ) (d : Cursor) → NumberAt n s c v d → v ≤ most → Reads (unsigned n most) s c (number v) d
+  is-admitted v d a h =
+      let t = small-enough (from (readNumber n) s c) (rw (← a .0) h) in
       record {
-        read = rw (active-from, t, flag v h) (ap number (a .0) ∙ as-number (c .base) (from (readNumber 1) s c));
-        behind = rw (active-from, t) (a .1 ∙ landed-mapped number (c .base) (from (readNumber 1) s c));
+        read = rw (admitted-from, t) (ap number (a .0) ∙ as-number (c .base) (from (readNumber n) s c));
+        behind = rw (admitted-from, t) (a .1 ∙ landed-mapped number (c .base) (from (readNumber n) s c));
       }

@@ -124,23 +124,23 @@ module _ (form : Form) (s : List ℕ) (at most : ℕ) (half : 256 ^ lengthWidth 
     too-far h l =
         rw (behind, below-half (lengthWidth form) v (omega (arith, half)), body-cut form false s at (at + lengthWidth form) v short l)
 
-    pub string-over : (r : ℕ) → r ≡ cond (ltb (length s - at - lengthWidth form) most) (length s - at - lengthWidth form) most → r < v → 0 ≡ endOf (readString form false s at)
-    string-over r e l = by (ltb (length s - at - lengthWidth form) most) e (ltb most v) refl
+    pub string-over : (r : ℕ) → r ≡ cond (ltb (length s - (at + lengthWidth form)) most) (length s - (at + lengthWidth form)) most → r < v → 0 ≡ endOf (readString form false s at)
+    string-over r e l = by (ltb (length s - (at + lengthWidth form)) most) e (ltb most v) refl
       where
-        by : (t : Bool) → r ≡ cond t (length s - at - lengthWidth form) most → (u : Bool) → ltb most v ≡ u → 0 ≡ endOf (readString form false s at)
+        by : (t : Bool) → r ≡ cond t (length s - (at + lengthWidth form)) most → (u : Bool) → ltb most v ≡ u → 0 ≡ endOf (readString form false s at)
         by t i true j = too-large (ltb-true _ _ j)
         by true i false j = too-far (ltb-false _ _ j) (omega arith)
         by false i false j = let k : v ≤ most = ltb-false _ _ j in absurd (omega arith)
 
-    pub string-fits : (r : ℕ) → r ≡ cond (ltb (length s - at - lengthWidth form) most) (length s - at - lengthWidth form) most → v ≤ r → (v ≤ most) × (at + lengthWidth form + v ≤ length s)
-    string-fits r e l = by (ltb (length s - at - lengthWidth form) most) refl e
+    pub string-fits : (r : ℕ) → r ≡ cond (ltb (length s - (at + lengthWidth form)) most) (length s - (at + lengthWidth form)) most → v ≤ r → (v ≤ most) × (at + lengthWidth form + v ≤ length s)
+    string-fits r e l = by (ltb (length s - (at + lengthWidth form)) most) refl e
       where
         room : at + lengthWidth form ≤ length s
         room = is-there (lengthWidth form) s at v there .0
 
-        by : (t : Bool) → ltb (length s - at - lengthWidth form) most ≡ t → r ≡ cond t (length s - at - lengthWidth form) most → (v ≤ most) × (at + lengthWidth form + v ≤ length s)
-        by true j i = let k : length s - at - lengthWidth form < most = ltb-true _ _ j in (omega arith, omega (arith, room))
-        by false j i = let k : most ≤ length s - at - lengthWidth form = ltb-false _ _ j in (omega arith, omega (arith, room))
+        by : (t : Bool) → ltb (length s - (at + lengthWidth form)) most ≡ t → r ≡ cond t (length s - (at + lengthWidth form)) most → (v ≤ most) × (at + lengthWidth form + v ≤ length s)
+        by true j i = let k : length s - (at + lengthWidth form) < most = ltb-true _ _ j in (omega arith, omega (arith, room))
+        by false j i = let k : most ≤ length s - (at + lengthWidth form) = ltb-false _ _ j in (omega arith, omega (arith, room))
 
     module _ (h : (v ≤ most) × (at + lengthWidth form + v ≤ length s)) where
       pub string-not-text : isText form (take v (drop (at + lengthWidth form) s)) ≡ false → 0 ≡ endOf (readString form false s at)

@@ -9,20 +9,25 @@ ghost use Rattle.fields.specs.Ends.{endOf};
 use wire::Number;
 use wire::Width;
 
-// Behind bytes B. One comparison tests the length's sign and the room, which leaves the length one load.
+// Behind bytes B. One comparison tests the length's sign and the room, which leaves the length one load; and the place
+// behind the length is known before the length is, which leaves one sum to wait for it.
 pub fn bytes_end(s: &[u8], at: usize) -> usize
     ensures { λ r. ⌜ r ≡ endOf (readString Bytes false (now (s .entry)) at) ⌝ }
 {
     if s.len() < at {
         return 0;
     }
-    let room = s.len() - at;
+    if s.len() - at < 4 {
+        return 0;
+    }
+    let body = at + 4;
+    let room = s.len() - body;
     match wire::number_at(s, at, Width::Four) {
         Number::Value(n) => {
-            if (least(room - 4, 0x7fff_ffff) as u64) < n {
+            if (least(room, 0x7fff_ffff) as u64) < n {
                 return 0;
             }
-            at + 4 + n as usize
+            body + n as usize
         }
         Number::Cut => 0,
     }
@@ -35,15 +40,18 @@ pub fn text_end(s: &[u8], at: usize) -> usize
     if s.len() < at {
         return 0;
     }
-    let room = s.len() - at;
+    if s.len() - at < 2 {
+        return 0;
+    }
+    let body = at + 2;
+    let room = s.len() - body;
     match wire::number_at(s, at, Width::Two) {
         Number::Value(n) => {
-            if (least(room - 2, 0x7fff) as u64) < n {
+            if (least(room, 0x7fff) as u64) < n {
                 return 0;
             }
-            let from = at + 2;
-            let end = from + n as usize;
-            if !unicode::is_utf8(&s[from..end]) {
+            let end = body + n as usize;
+            if !unicode::is_utf8(&s[body..end]) {
                 return 0;
             }
             end

@@ -1,28 +1,21 @@
-// Numbers: u8, u16, u32, u64, i64, and Active, read and written.
+// Numbers: unsigned ones of every width, i64, and Active, read and written.
 ghost use mathlib.Core.List.{[]};
 ghost use mathlib.Core.Path.{_≡_};
-ghost use Prim.Native.Nat.{_^_, _<_};
+ghost use Prim.Native.Nat.{_-_, _^_, _<_};
 ghost use Rattle.protocol.specs.Fields.{number, integer};
-ghost use Rattle.protocol.specs.Frames.{codeField, flagField};
-ghost use Rattle.protocol.specs.Kinds.{unsigned, u8, u16, u32, u64, i64, active, rc};
+ghost use Rattle.protocol.specs.Kinds.{unsigned, u16, u32, u64, i64, active};
 ghost use Rattle.rules.specs.Reading.{readNumber};
 ghost use Rattle.wire.specs.Integers.{widthOf};
 ghost use Rattle.fields.specs.Cursor.{from, landed, foundOr, Reads};
 ghost use Rattle.fields.specs.Writer.{state, stepField};
 use crate::cursor::Cursor;
 use crate::writer::Writer;
-use protocol::ResponseCode;
 use protocol::refusal;
 use wire::Number;
 use wire::Width;
 
 pub struct ReadNumber {
     pub value: u64,
-    pub next: Cursor,
-}
-
-pub struct ReadU8 {
-    pub value: u8,
     pub next: Cursor,
 }
 
@@ -46,16 +39,6 @@ pub struct ReadI64 {
     pub next: Cursor,
 }
 
-pub struct ReadCode {
-    pub value: ResponseCode,
-    pub next: Cursor,
-}
-
-pub struct ReadFlag {
-    pub value: bool,
-    pub next: Cursor,
-}
-
 // A number of a width (6).
 pub fn number_of(s: &[u8], c: Cursor, width: Width) -> ReadNumber
     ensures { λ r. ⌜ (r .value ≡ foundOr 0 (from (readNumber (widthOf width)) (now (s .entry)) c)) × (r .next ≡ landed (c .base) (from (readNumber (widthOf width)) (now (s .entry)) c)) ⌝ }
@@ -74,17 +57,6 @@ pub fn number_of(s: &[u8], c: Cursor, width: Width) -> ReadNumber
             value: 0,
             next: c.refuse(refusal::FIELD_CUT),
         },
-    }
-}
-
-pub fn u8_field(s: &[u8], c: Cursor) -> ReadU8
-    ensures { λ r. ⌜ Reads u8 (now (s .entry)) c (number (r .value)) (r .next) ⌝ }
-{
-    let r = number_of(s, c, Width::One);
-    let next = r.next;
-    ReadU8 {
-        value: (r.value % 0x100) as u8,
-        next: next,
     }
 }
 
@@ -132,60 +104,25 @@ pub fn i64_field(s: &[u8], c: Cursor) -> ReadI64
     }
 }
 
-// The byte (6), then its value (10).
-pub fn active_field(s: &[u8], c: Cursor) -> ReadFlag
-    ensures { λ r. ⌜ Reads active (now (s .entry)) c (flagField (r .value)) (r .next) ⌝ }
+// A number of a width (6), admitted up to a largest value (10).
+pub fn unsigned_field(s: &[u8], c: Cursor, width: Width, most: u64) -> ReadNumber
+    ensures { λ r. ⌜ Reads (unsigned (widthOf width) most) (now (s .entry)) c (number (r .value)) (r .next) ⌝ }
 {
-    let r = number_of(s, c, Width::One);
-    let next = r.next;
-    let value = r.value;
-    if 1 < value {
-        return ReadFlag {
-            value: false,
+    let r = number_of(s, c, width);
+    if most < r.value {
+        return ReadNumber {
+            value: 0,
             next: c.refuse(refusal::VALUE_NOT_ADMITTED),
         };
     }
-    ReadFlag {
-        value: value == 1,
-        next: next,
-    }
-}
-
-// A response code: any number is one.
-pub fn code_field(s: &[u8], c: Cursor) -> ReadCode
-    ensures { λ r. ⌜ Reads rc (now (s .entry)) c (codeField (r .value)) (r .next) ⌝ }
-{
-    let r = u16_field(s, c);
-    let next = r.next;
-    ReadCode {
-        value: ResponseCode::from_number(r.value),
-        next: next,
-    }
+    r
 }
 
 // c and every other unsigned number that fills its bytes: a value too wide for them gives 10.
-pub fn write_u8(w: Writer, out: &mut [u8], value: u64) -> Writer
-    ensures { λ r. ⌜ state r (now (out .exit)) ≡ stepField u8 [] (number value) (state w (now (out .entry))) ⌝ }
+pub fn write_number(w: Writer, out: &mut [u8], width: Width, value: u64) -> Writer
+    ensures { λ r. ⌜ state r (now (out .exit)) ≡ stepField (unsigned (widthOf width) (256 ^ widthOf width - 1)) [] (number value) (state w (now (out .entry))) ⌝ }
 {
-    write_unsigned(w, out, Width::One, 0xff, value)
-}
-
-pub fn write_u16(w: Writer, out: &mut [u8], value: u64) -> Writer
-    ensures { λ r. ⌜ state r (now (out .exit)) ≡ stepField u16 [] (number value) (state w (now (out .entry))) ⌝ }
-{
-    write_unsigned(w, out, Width::Two, 0xffff, value)
-}
-
-pub fn write_u32(w: Writer, out: &mut [u8], value: u64) -> Writer
-    ensures { λ r. ⌜ state r (now (out .exit)) ≡ stepField u32 [] (number value) (state w (now (out .entry))) ⌝ }
-{
-    write_unsigned(w, out, Width::Four, 0xffff_ffff, value)
-}
-
-pub fn write_u64(w: Writer, out: &mut [u8], value: u64) -> Writer
-    ensures { λ r. ⌜ state r (now (out .exit)) ≡ stepField u64 [] (number value) (state w (now (out .entry))) ⌝ }
-{
-    write_unsigned(w, out, Width::Eight, 0xffff_ffff_ffff_ffff, value)
+    write_unsigned(w, out, width, largest(width), value)
 }
 
 // Active is 0 or 1.
@@ -193,6 +130,19 @@ pub fn write_active(w: Writer, out: &mut [u8], value: u64) -> Writer
     ensures { λ r. ⌜ state r (now (out .exit)) ≡ stepField active [] (number value) (state w (now (out .entry))) ⌝ }
 {
     write_unsigned(w, out, Width::One, 1, value)
+}
+
+// The largest number of a width.
+fn largest(width: Width) -> u64
+    ensures { λ r. ⌜ r ≡ 256 ^ widthOf width - 1 ⌝ }
+{
+    match width {
+        Width::One => 0xff,
+        Width::Two => 0xffff,
+        Width::Three => 0xff_ffff,
+        Width::Four => 0xffff_ffff,
+        Width::Eight => 0xffff_ffff_ffff_ffff,
+    }
 }
 
 // A number up to the largest that is admitted (10).

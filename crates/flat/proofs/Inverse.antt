@@ -30,7 +30,7 @@ use Rattle.flat.specs.Flat.{nullLength, notNull, flatPlace, flatOctets, 
 use Rattle.flat.specs.Unflat.{slot, unflatOctets, unflatOffset, unflatHeader, slotsOf, unflatField, unflatRow, unflatFrame, writeFlat}
 use Rattle.flat.specs.Inverse.{SignedOffset, SignedHeader, SignedField, SignedRow, ToldOctets, ToldField, ToldRow, FlatInverse, FlatWrites}
 
-octets-back : (nullable : Bool) (o : Option Place) (rest : List ℕ) → ToldOctets nullable o → unflatOctets nullable (slot (flatOctets nullable o ++ rest) 0) (slot (flatOctets nullable o ++ rest) 1) ≡ o
+pub octets-back : (nullable : Bool) (o : Option Place) (rest : List ℕ) → ToldOctets nullable o → unflatOctets nullable (slot (flatOctets nullable o ++ rest) 0) (slot (flatOctets nullable o ++ rest) 1) ≡ o
 octets-back false none rest h = absurd h
 octets-back false (some p) rest h = refl
 octets-back true none rest h = refl
@@ -42,7 +42,7 @@ octets-behind false (some p) rest = refl
 octets-behind true none rest = refl
 octets-behind true (some p) rest = refl
 
-offset-back : (o : OffsetSpecification) (b : Bool) (rest : List ℕ) → SignedOffset o → unflatOffset b (slot (flatOffset o ++ rest) 0) (slot (flatOffset o ++ rest) 1) ≡ o
+pub offset-back : (o : OffsetSpecification) (b : Bool) (rest : List ℕ) → SignedOffset o → unflatOffset b (slot (flatOffset o ++ rest) 0) (slot (flatOffset o ++ rest) 1) ≡ o
 offset-back None b rest h = refl
 offset-back First b rest h = refl
 offset-back Last b rest h = refl

@@ -3,7 +3,7 @@
 use mathlib.Core.Bool.{Bool, true, false, cond}
 use mathlib.Core.List.{List, [], _∷_}
 use mathlib.Core.Option.{Option, none, some}
-use Prim.Native.Nat.{ℕ, _^_}
+use Prim.Native.Nat.{ℕ, _+_, _^_}
 use lib.Dec.{eqb}
 use lib.ListN.{getD, drop}
 use Rattle.wire.specs.Signed as two's
@@ -67,6 +67,16 @@ slotsOf (string form nullable) = 2
 slotsOf (specification admitsNone) = 2
 slotsOf (list row) = 3
 slotsOf chunk = 14
+
+-- Of what is no field, none.
+abbrev pub slotsFor : Option Kind → ℕ
+slotsFor none = 0
+slotsFor (some kind) = slotsOf kind
+
+-- Of a row.
+abbrev pub slotsIn : Row → ℕ
+slotsIn end = 0
+slotsIn (kind · row) = slotsOf kind + slotsIn row
 
 -- The field whose slots stand first.
 abbrev pub unflatField : Kind → List ℕ → Field Place

@@ -1,2 +1,4 @@
 -- What is proved of whole frames.
 pub mod Sizes
+pub mod Contents
+pub mod Told

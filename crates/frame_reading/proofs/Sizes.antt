@@ -8,13 +8,13 @@ use lib.Dec.{eqb, ltb}
 use lib.ListN.{length, take, drop}
 use borrow.Author.Tests.{eq-eqb, ne-eqb, lt-ltb, le-ltb}
 use Rattle.wire.specs.Integers.{bigEndian, Bytes}
-use Rattle.protocol.specs.Decision.{Decision, decide}
+use Rattle.protocol.specs.Decision.{decide}
 use Rattle.protocol.specs.Fields.{Field, number, overPlaces, further}
 use Rattle.protocol.specs.Kinds.{unsigned, u16}
 use Rattle.protocol.specs.Refusals.{frameTooLarge, frameTooSmall}
 use Rattle.protocol.specs.declared.place.Place.{Place}
 use Rattle.rules.specs.Outcome.{mapped, got}
-use Rattle.rules.specs.Reading.{Reading, refusal, short, overLimit, readField, readSized, readDecided, readFrame}
+use Rattle.rules.specs.Reading.{refusal, short, overLimit, readField, readSized, readDecided, readFrame}
 use Rattle.rules.proofs.Numbers.{number-there, whole-width}
 use Rattle.fields.specs.Cursor.{cursor, from, Reads}
 use Rattle.fields.specs.declared.cursor.Cursor.{Cursor}
@@ -45,16 +45,16 @@ module _ (s : List ℕ) (limit size : ℕ) where
       in-part i = rw (g, le-ltb _ _ h, lt-ltb _ _ i)
 
       -- Key and version are read where the content is behind them.
-      pub whole : (k v : ℕ) (c d e f : Cursor) (p : Decision) (r : Reading) → Bytes s → size + 4 ≤ length s → c ≡ cursor 0 4 0 → Reads u16 s c (number k) d → e ≡ cursor 0 6 0 → Reads u16 s e (number v) f → p ≡ decide k v → r ≡ readDecided p (take (size + 4 - 8) (drop 8 s)) → r ≡ readSized s limit size
+      pub whole : (k v : ℕ) (c d e f : Cursor) → Bytes s → size + 4 ≤ length s → c ≡ cursor 0 4 0 → Reads u16 s c (number k) d → e ≡ cursor 0 6 0 → Reads u16 s e (number v) f → readDecided (decide k v) (take (size + 4 - 8) (drop 8 s)) ≡ readSized s limit size
       unfolding readSized
-      whole k v c d e f p r b i a l m n o j =
+      whole k v c d e f b i a l m n =
           let part : size + 4 - 8 ≡ size - 4 = omega arith in
-          rw (g, le-ltb _ _ h, le-ltb _ _ i, j, o, part, number-read 2 0xffff refl s 4 k c d b (omega (arith, h, i)) a l, number-read 2 0xffff refl s 6 v e f b (omega (arith, h, i)) m n) refl
+          rw (g, le-ltb _ _ h, le-ltb _ _ i, part, number-read 2 0xffff refl s 4 k c d b (omega (arith, h, i)) a l, number-read 2 0xffff refl s 6 v e f b (omega (arith, h, i)) m n) refl
 
 -- Four bytes are there, and Size is their number.
-pub size-there : (s : List ℕ) (limit size : ℕ) (r : Reading) → (4 ≤ length s) × (size ≡ bigEndian 4 s 0) → r ≡ readSized s limit size → r ≡ readFrame s limit
+pub size-there : (s : List ℕ) (limit size : ℕ) → (4 ≤ length s) × (size ≡ bigEndian 4 s 0) → readSized s limit size ≡ readFrame s limit
 unfolding readFrame
-size-there s limit size r h e = rw (e, le-ltb _ _ (h .0), h .1)
+size-there s limit size h = rw (le-ltb _ _ (h .0), h .1)
 
 pub size-cut : (s : List ℕ) (limit : ℕ) → length s < 4 → short 4 ≡ readFrame s limit
 unfolding readFrame

@@ -1,4 +1,5 @@
 // Reading whole frames.
 mod reading;
 
+pub use reading::FrameRead;
 pub use reading::read;

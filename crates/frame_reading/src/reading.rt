@@ -1,132 +1,121 @@
-// Reading a frame.
+// Reading a frame into its slots.
 ghost use mathlib.Core.Path.{_≡_};
-ghost use Prim.Native.Nat.{_+_, _≤_, _<_};
-ghost use lib.ListN.{length};
-ghost use Rattle.protocol.specs.Decision.{nameOf};
-ghost use Rattle.rules.specs.Reading.{readFrame, readLayout, readSized};
-ghost use Rattle.layouts.specs.Answer.{answerOf};
+ghost use Prim.Native.Nat.{_<_};
+ghost use Rattle.protocol.specs.Decision.{decide};
+ghost use Rattle.protocol.specs.Layouts.{rowFrom};
+ghost use Rattle.protocol.specs.Table.{rowOf};
+ghost use Rattle.rules.specs.Reading.{readFrame, readDecided, readLayout, readSized};
+ghost use Rattle.frame_reading.specs.Answer.{told, slotsAfter};
+use field_slots::read_fields;
 use fields::Cursor;
+use fields::over_limit;
 use fields::u16_field;
-use layouts::Reading;
-use layouts::over_limit;
-use protocol::Layout;
-use protocol::Picked;
+use protocol::Decided;
 use protocol::refusal;
 use wire::Number;
 use wire::Width;
 
-// The frame at the start of the bytes, under a frame limit; 0 is no limit. First: four bytes present (1).
-pub fn read(bytes: &[u8], limit: u32) -> Reading
-    ensures { λ r. ⌜ answerOf r ≡ readFrame (now (bytes .entry)) limit ⌝ }
+pub enum FrameRead {
+    // The slots are the frame's.
+    Frame,
+    // Refusal 1: how many bytes the frame needs.
+    Short { needed: u64 },
+    // Another refusal, and where the field at fault begins, counted from the frame's first byte.
+    Refused { number: u8, place: usize },
+}
+
+// The frame at the start of the bytes, under a frame limit; 0 is no limit. Only a frame that is read changes the slots.
+// What the fast reader leaves, the reader that knows every layout and every refusal reads.
+pub fn read(bytes: &[u8], limit: u32, slots: &mut [u64; 24]) -> FrameRead
+    ensures { λ r. ⌜ r ≡ told (readFrame (now (bytes .entry)) limit) ⌝ }
+    ensures { λ _. ⌜ now (slots .exit) ≡ slotsAfter (now (slots .entry)) (readFrame (now (bytes .entry)) limit) ⌝ }
+{
+    if fast_reading::read(bytes, limit, slots) {
+        return FrameRead::Frame;
+    }
+    read_any(bytes, limit, slots)
+}
+
+// First: four bytes present (1).
+fn read_any(bytes: &[u8], limit: u32, slots: &mut [u64; 24]) -> FrameRead
+    ensures { λ r. ⌜ r ≡ told (readFrame (now (bytes .entry)) limit) ⌝ }
+    ensures { λ _. ⌜ now (slots .exit) ≡ slotsAfter (now (slots .entry)) (readFrame (now (bytes .entry)) limit) ⌝ }
 {
     match wire::number_at(bytes, 0, Width::Four) {
-        Number::Value(size) => sized(bytes, limit, size),
-        Number::Cut => Reading::Short { needed: 4 },
+        Number::Value(size) => read_sized(bytes, limit, size, slots),
+        Number::Cut => FrameRead::Short { needed: 4 },
     }
 }
 
-// Size above the limit (2), below 4 (3), whole frame present (1), key (4), version (5), then the content.
-fn sized(bytes: &[u8], limit: u32, size: u64) -> Reading
+// Size above the limit (2), below 4 (3), whole frame present (1), then what key and version say.
+fn read_sized(bytes: &[u8], limit: u32, size: u64, slots: &mut [u64; 24]) -> FrameRead
     requires { ⌜ size < 0x1_0000_0000 ⌝ }
-    ensures { λ r. ⌜ answerOf r ≡ readSized (now (bytes .entry)) limit size ⌝ }
+    ensures { λ r. ⌜ r ≡ told (readSized (now (bytes .entry)) limit size) ⌝ }
+    ensures { λ _. ⌜ now (slots .exit) ≡ slotsAfter (now (slots .entry)) (readSized (now (bytes .entry)) limit size) ⌝ }
 {
     if over_limit(limit, size) {
-        return Reading::Refused {
-            number: refusal::FRAME_TOO_LARGE,
-            place: 0,
-        };
+        return refused(refusal::FRAME_TOO_LARGE, 0);
     }
     if size < 4 {
-        return Reading::Refused {
-            number: refusal::FRAME_TOO_SMALL,
-            place: 0,
-        };
+        return refused(refusal::FRAME_TOO_SMALL, 0);
     }
     let end = size as usize + 4;
     if bytes.len() < end {
-        return Reading::Short { needed: size + 4 };
+        return FrameRead::Short { needed: size + 4 };
     }
     let key = u16_field(bytes, Cursor::within(4));
     let version = u16_field(bytes, Cursor::within(6));
-    match protocol::layout_of(key.value, version.value) {
-        Picked::Layout(layout) => content_of(layout, &bytes[8..end]),
-        Picked::UnknownKey => Reading::Refused {
-            number: refusal::UNKNOWN_KEY,
-            place: 4,
-        },
-        Picked::UnknownVersion => Reading::Refused {
-            number: refusal::UNKNOWN_VERSION,
-            place: 6,
-        },
+    read_decided(&bytes[8..end], key.value, version.value, slots)
+}
+
+// Key (4), version (5), then the content.
+fn read_decided(s: &[u8], key: u16, version: u16, slots: &mut [u64; 24]) -> FrameRead
+    ensures { λ r. ⌜ r ≡ told (readDecided (decide key version) (now (s .entry))) ⌝ }
+    ensures { λ _. ⌜ now (slots .exit) ≡ slotsAfter (now (slots .entry)) (readDecided (decide key version) (now (s .entry))) ⌝ }
+{
+    let picked = protocol::layout_of(key, version);
+    let decided = picked.decided;
+    let fields = picked.fields;
+    match decided {
+        Decided::Layout => read_content(s, key, version, fields, slots),
+        Decided::UnknownKey => refused(refusal::UNKNOWN_KEY, 4),
+        Decided::UnknownVersion => refused(refusal::UNKNOWN_VERSION, 6),
     }
 }
 
-// The content by its layout.
-fn content_of(layout: Layout, content: &[u8]) -> Reading
-    ensures { λ r. ⌜ answerOf r ≡ readLayout (nameOf layout .key) (nameOf layout .version) (now (content .entry)) ⌝ }
+// The fields, then 11 if bytes are left.
+fn read_content(
+    s: &[u8],
+    key: u16,
+    version: u16,
+    fields: [u8; 6],
+    slots: &mut [u64; 24],
+) -> FrameRead
+    requires { ⌜ rowFrom fields ≡ rowOf key version ⌝ }
+    ensures { λ r. ⌜ r ≡ told (readLayout key version (now (s .entry))) ⌝ }
+    ensures { λ _. ⌜ now (slots .exit) ≡ slotsAfter (now (slots .entry)) (readLayout key version (now (s .entry))) ⌝ }
 {
-    match layout {
-        Layout::DeclarePublisher => data_layouts::read_declare_publisher(content),
-        Layout::Publish => data_layouts::read_publish(content),
-        Layout::PublishV2 => data_layouts::read_publish_v2(content),
-        Layout::PublishConfirm => data_layouts::read_publish_confirm(content),
-        Layout::PublishError => data_layouts::read_publish_error(content),
-        Layout::QueryPublisher => data_layouts::read_query_publisher(content),
-        Layout::DeletePublisher => data_layouts::read_delete_publisher(content),
-        Layout::Subscribe => data_layouts::read_subscribe(content),
-        Layout::Deliver => data_layouts::read_deliver(content),
-        Layout::DeliverV2 => data_layouts::read_deliver_v2(content),
-        Layout::Credit => data_layouts::read_credit(content),
-        Layout::StoreOffset => data_layouts::read_store_offset(content),
-        Layout::QueryOffset => data_layouts::read_query_offset(content),
-        Layout::Unsubscribe => data_layouts::read_unsubscribe(content),
-        Layout::Create => control_layouts::read_create(content),
-        Layout::Delete => control_layouts::read_delete(content),
-        Layout::Metadata => control_layouts::read_metadata(content),
-        Layout::MetadataUpdate => control_layouts::read_metadata_update(content),
-        Layout::PeerProperties => control_layouts::read_peer_properties(content),
-        Layout::SaslHandshake => control_layouts::read_sasl_handshake(content),
-        Layout::SaslAuthenticate => control_layouts::read_sasl_authenticate(content),
-        Layout::Tune => control_layouts::read_tune(content),
-        Layout::Open => control_layouts::read_open(content),
-        Layout::Close => control_layouts::read_close(content),
-        Layout::Heartbeat => control_layouts::read_heartbeat(content),
-        Layout::Route => control_layouts::read_route(content),
-        Layout::Partitions => control_layouts::read_partitions(content),
-        Layout::ConsumerUpdate => data_layouts::read_consumer_update(content),
-        Layout::ExchangeCommandVersions => control_layouts::read_exchange_command_versions(content),
-        Layout::StreamStats => control_layouts::read_stream_stats(content),
-        Layout::CreateSuperStream => control_layouts::read_create_super_stream(content),
-        Layout::DeleteSuperStream => control_layouts::read_delete_super_stream(content),
-        Layout::DeclarePublisherResponse => data_layouts::read_declare_publisher_response(content),
-        Layout::QueryPublisherResponse => data_layouts::read_query_publisher_response(content),
-        Layout::DeletePublisherResponse => data_layouts::read_delete_publisher_response(content),
-        Layout::SubscribeResponse => data_layouts::read_subscribe_response(content),
-        Layout::CreditResponse => data_layouts::read_credit_response(content),
-        Layout::QueryOffsetResponse => data_layouts::read_query_offset_response(content),
-        Layout::UnsubscribeResponse => data_layouts::read_unsubscribe_response(content),
-        Layout::CreateResponse => control_layouts::read_create_response(content),
-        Layout::DeleteResponse => control_layouts::read_delete_response(content),
-        Layout::MetadataResponse => control_layouts::read_metadata_response(content),
-        Layout::PeerPropertiesResponse => control_layouts::read_peer_properties_response(content),
-        Layout::SaslHandshakeResponse => control_layouts::read_sasl_handshake_response(content),
-        Layout::SaslAuthenticateResponse => control_layouts::read_sasl_authenticate_response(
-            content,
-        ),
-        Layout::TuneResponse => control_layouts::read_tune_response(content),
-        Layout::OpenResponse => control_layouts::read_open_response(content),
-        Layout::CloseResponse => control_layouts::read_close_response(content),
-        Layout::RouteResponse => control_layouts::read_route_response(content),
-        Layout::PartitionsResponse => control_layouts::read_partitions_response(content),
-        Layout::ConsumerUpdateResponse => data_layouts::read_consumer_update_response(content),
-        Layout::ExchangeCommandVersionsResponse =>
-            control_layouts::read_exchange_command_versions_response(content),
-        Layout::StreamStatsResponse => control_layouts::read_stream_stats_response(content),
-        Layout::CreateSuperStreamResponse => control_layouts::read_create_super_stream_response(
-            content,
-        ),
-        Layout::DeleteSuperStreamResponse => control_layouts::read_delete_super_stream_response(
-            content,
-        ),
+    let mut filled = [0u64; 24];
+    filled[0] = key as u64;
+    filled[1] = version as u64;
+    let c = read_fields(s, fields, &mut filled[..]);
+    let number = c.refused;
+    let at = c.at;
+    if number != 0 {
+        return refused(number, 8 + at);
+    }
+    if at < s.len() {
+        return refused(refusal::BYTES_LEFT, 8 + at);
+    }
+    *slots = filled;
+    FrameRead::Frame
+}
+
+fn refused(number: u8, place: usize) -> FrameRead
+    ensures { λ r. ⌜ r ≡ FrameRead.Refused number place ⌝ }
+{
+    FrameRead::Refused {
+        number: number,
+        place: place,
     }
 }

@@ -5,32 +5,32 @@ ghost use mathlib.Core.Bool.{cond};
 ghost use lib.ListN.{length};
 use crate::text;
 use fields::Cursor;
-use flat::frame_slots;
-use layouts::Reading;
-use protocol::Frame;
+use frame_reading::FrameRead;
 
 pub fn run(name: &[u8], limit: u32, bytes: &[u8]) {
     text::word(name);
-    match frame_reading::read(bytes, limit) {
-        Reading::Frame(frame) => {
-            accepted(bytes, frame);
+    let mut slots = [0u64; 24];
+    match frame_reading::read(bytes, limit, &mut slots) {
+        FrameRead::Frame => {
+            accepted(bytes, slots);
             cuts(name, limit, bytes);
         }
-        Reading::Short { needed } => short(needed),
-        Reading::Refused { number, place } => refused(number, place),
+        FrameRead::Short { needed } => short(needed),
+        FrameRead::Refused { number, place } => refused(number, place),
     }
 }
 
 // With one byte more behind the vector: printed if that is a frame. A byte behind a frame plays no part.
 pub fn longer(name: &[u8], limit: u32, bytes: &[u8]) {
-    match frame_reading::read(bytes, limit) {
-        Reading::Frame(frame) => {
+    let mut slots = [0u64; 24];
+    match frame_reading::read(bytes, limit, &mut slots) {
+        FrameRead::Frame => {
             text::word(name);
             text::word(b" longer");
-            accepted(bytes, frame);
+            accepted(bytes, slots);
         }
-        Reading::Short { needed: _ } => {}
-        Reading::Refused {
+        FrameRead::Short { needed: _ } => {}
+        FrameRead::Refused {
             number: _,
             place: _,
         } => {}
@@ -38,8 +38,7 @@ pub fn longer(name: &[u8], limit: u32, bytes: &[u8]) {
 }
 
 // The frame's length, and its slots.
-fn accepted(bytes: &[u8], frame: Frame) {
-    let slots = frame_slots(frame);
+fn accepted(bytes: &[u8], slots: [u64; 24]) {
     text::word(b" frame");
     text::decimal(total(bytes));
     text::hex(slots[0], 4);
@@ -120,10 +119,11 @@ fn needing(limit: u32, frame: &[u8], from: usize, n: u64) -> u64
 fn short_of(limit: u32, cut: &[u8], n: u64) -> u64
     ensures { λ r. ⌜ r ≤ 1 ⌝ }
 {
-    match frame_reading::read(cut, limit) {
-        Reading::Frame(_) => 0,
-        Reading::Short { needed } => one_if(needed == n),
-        Reading::Refused {
+    let mut slots = [0u64; 24];
+    match frame_reading::read(cut, limit, &mut slots) {
+        FrameRead::Frame => 0,
+        FrameRead::Short { needed } => one_if(needed == n),
+        FrameRead::Refused {
             number: _,
             place: _,
         } => 0,

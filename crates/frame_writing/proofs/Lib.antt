@@ -2,10 +2,6 @@
 mod Passes
 mod FieldPasses
 mod Writings
-mod Both
-mod Behind
-mod Narrowing
-mod Fitting
-mod Rows
 mod Decided
 mod Flattened
+mod Fast

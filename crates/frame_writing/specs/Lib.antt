@@ -1,5 +1,3 @@
--- Writing from slots: what an answer stands for, and what is put of a frame, a row and a field.
+-- Writing from slots: what an answer stands for, and what is put of a frame.
 pub mod Written
 pub mod Content
-pub mod Row
-pub mod Narrow

@@ -1,44 +1,20 @@
-// Writing a frame: a typed one by way of its slots, and any slots that a host hands over.
-ghost use mathlib.Core.List.{[]};
+// Writing a frame from its slots.
 ghost use mathlib.Core.Path.{_≡_};
-ghost use lib.ListN.{getD, drop};
+ghost use lib.ListN.{getD};
 ghost use Rattle.protocol.specs.Decision.{layout, decide, decisionOf};
-ghost use Rattle.protocol.specs.Frames.{fieldsOf};
-ghost use Rattle.protocol.specs.Kinds.{spec₀};
-ghost use Rattle.protocol.specs.Fields as F;
+ghost use Rattle.protocol.specs.Layouts.{rowFrom};
 ghost use Rattle.protocol.specs.Table.{rowOf};
-ghost use Rattle.rules.specs.Writing.{writeFrame};
-ghost use Rattle.fields.specs.Writer.{state, stepField, stepRow};
+ghost use Rattle.protocol.specs.declared.layout.Decided.the-variants.{Layout};
+ghost use Rattle.fields.specs.Writer.{state};
+ghost use Rattle.flat.specs.Unflat.{unflatFrame, writeFlat};
 ghost use Rattle.frame_writing.specs.Written.{writingOf, stepFrame};
-ghost use Rattle.flat.specs.Unflat.{unflatFrame, unflatOffset, unflatRow, writeFlat};
-ghost use Rattle.frame_writing.specs.Row.{rowFrom, stepKind};
-ghost use mathlib.Core.Bool.{true};
-use crate::chunk::write_chunk_slots;
 use crate::head::write_head;
-use crate::kinds::Kind;
-use crate::kinds::Kinds;
-use crate::kinds::kinds_of;
-use crate::kinds::slots_of;
-use crate::slots::list_of;
-use crate::slots::nullable_of;
-use crate::slots::offset_of;
-use crate::slots::place_of;
-use crate::slots::slot;
+use fast_writing::Fast;
+use field_slots::write_fields;
 use fields::Writer;
-use fields::write_active;
-use fields::write_nullable;
-use fields::write_offset;
-use fields::write_string;
-use fields::write_u8;
-use fields::write_u16;
-use fields::write_u32;
-use fields::write_u64;
-use flat::frame_slots;
-use layouts::over_limit;
-use lists::write_list;
-use protocol::Form;
-use protocol::Frame;
-use protocol::OffsetSpecification;
+use fields::over_limit;
+use flat::slot;
+use protocol::Decided;
 use protocol::Picked;
 use protocol::refusal;
 use wire::Width;
@@ -49,34 +25,39 @@ pub enum Written {
     Refused(u8),
 }
 
-// A frame whose places are in src, put at the start of out under a frame limit; 0 is no limit.
-pub fn write(frame: Frame, src: &[u8], limit: u32, out: &mut [u8]) -> Written
-    ensures { λ r. ⌜ writingOf r (now (out .exit)) ≡ writeFrame (fieldsOf frame) (now (src .entry)) limit (now (out .entry)) ⌝ }
-{
-    let slots = frame_slots(frame);
-    write_slots(&slots[..], src, limit, out)
-}
-
-// The same of a flat frame. Its slots may hold what no typed frame does: a key (4) or a version (5) that is not listed, and
-// numbers too wide for their fields (10).
-pub fn write_slots(slots: &[u64], src: &[u8], limit: u32, out: &mut [u8]) -> Written
+// The frame whose slots these are, and whose places are in src, put at the start of out under a frame limit; 0 is no limit.
+// What the fast writer leaves, the writer that knows every layout and every refusal writes.
+pub fn write(slots: &[u64; 24], src: &[u8], limit: u32, out: &mut [u8]) -> Written
     ensures { λ r. ⌜ writingOf r (now (out .exit)) ≡ writeFlat (now (slots .entry)) (now (src .entry)) limit (now (out .entry)) ⌝ }
 {
-    let key = slot(slots, 0, 0);
-    let version = slot(slots, 0, 1);
-    match layout_at(key, version) {
-        Picked::Layout(layout) => write_kinds(slots, src, limit, out, kinds_of(layout)),
-        Picked::UnknownKey => Written::Refused(refusal::UNKNOWN_KEY),
-        Picked::UnknownVersion => Written::Refused(refusal::UNKNOWN_VERSION),
+    match fast_writing::write(slots, src, limit, out) {
+        Fast::Length(length) => Written::Length(length),
+        Fast::Unwritten => write_any(&slots[..], src, limit, out),
+    }
+}
+
+// The slots may hold what no typed frame does: a key (4) or a version (5) that is not listed, and numbers too wide for their
+// fields (10).
+fn write_any(slots: &[u64], src: &[u8], limit: u32, out: &mut [u8]) -> Written
+    ensures { λ r. ⌜ writingOf r (now (out .exit)) ≡ writeFlat (now (slots .entry)) (now (src .entry)) limit (now (out .entry)) ⌝ }
+{
+    let picked = layout_at(slot(slots, 0, 0), slot(slots, 0, 1));
+    let decided = picked.decided;
+    let fields = picked.fields;
+    match decided {
+        Decided::Layout => write_layout(slots, src, limit, out, fields),
+        Decided::UnknownKey => Written::Refused(refusal::UNKNOWN_KEY),
+        Decided::UnknownVersion => Written::Refused(refusal::UNKNOWN_VERSION),
     }
 }
 
 // What a key and a version pick. No layout has a version 0, nor a number above 65,535.
 fn layout_at(key: u64, version: u64) -> Picked
-    ensures { λ r. ⌜ decisionOf r ≡ decide key version ⌝ }
+    ensures { λ r. ⌜ decisionOf (r .decided) key version ≡ decide key version ⌝ }
+    ensures { λ r. ⌜ (r .decided ≡ Layout → rowFrom (r .fields) ≡ rowOf key version) ⌝ }
 {
     if 0xffff < key {
-        return Picked::UnknownKey;
+        return protocol::layout_of(0, 0);
     }
     if 0xffff < version {
         return protocol::layout_of(key as u16, 0);
@@ -86,12 +67,12 @@ fn layout_at(key: u64, version: u64) -> Picked
 
 // The fields' checks come first, then Size above the limit or above 4,294,967,295 (2), then the room in out (12); only
 // then is a byte put.
-fn write_kinds(slots: &[u64], src: &[u8], limit: u32, out: &mut [u8], kinds: Kinds) -> Written
+fn write_layout(slots: &[u64], src: &[u8], limit: u32, out: &mut [u8], fields: [u8; 6]) -> Written
     requires { ⌜ decide (getD (now slots) 0 0) (getD (now slots) 1 0) ≡ layout (getD (now slots) 0 0) (getD (now slots) 1 0) ⌝ }
-    requires { ⌜ rowFrom kinds ≡ rowOf (getD (now slots) 0 0) (getD (now slots) 1 0) ⌝ }
+    requires { ⌜ rowFrom fields ≡ rowOf (getD (now slots) 0 0) (getD (now slots) 1 0) ⌝ }
     ensures { λ r. ⌜ writingOf r (now (out .exit)) ≡ writeFlat (now (slots .entry)) (now (src .entry)) limit (now (out .entry)) ⌝ }
 {
-    let measured = behind_size(Writer::measuring(0), src, out, slots, kinds);
+    let measured = behind_size(Writer::measuring(0), src, out, slots, fields);
     let number = measured.refused;
     if number != 0 {
         return Written::Refused(number);
@@ -107,88 +88,17 @@ fn write_kinds(slots: &[u64], src: &[u8], limit: u32, out: &mut [u8], kinds: Kin
         return Written::Refused(refusal::NO_ROOM);
     }
     let next = wire::put_number(out, 0, Width::Four, size as u64);
-    behind_size(Writer::at_place(next), src, out, slots, kinds);
+    behind_size(Writer::at_place(next), src, out, slots, fields);
     Written::Length(size as u64 + 4)
 }
 
 // Key, version and content.
-fn behind_size(w: Writer, src: &[u8], out: &mut [u8], slots: &[u64], kinds: Kinds) -> Writer
-    requires { ⌜ rowFrom kinds ≡ rowOf (getD (now slots) 0 0) (getD (now slots) 1 0) ⌝ }
+fn behind_size(w: Writer, src: &[u8], out: &mut [u8], slots: &[u64], fields: [u8; 6]) -> Writer
+    requires { ⌜ rowFrom fields ≡ rowOf (getD (now slots) 0 0) (getD (now slots) 1 0) ⌝ }
     ensures { λ r. ⌜ state r (now (out .exit)) ≡ stepFrame (unflatFrame (now (slots .entry))) (now (src .entry)) (state w (now (out .entry))) ⌝ }
 {
     let key = slot(slots, 0, 0);
     let version = slot(slots, 0, 1);
     let w = write_head(w, out, key, version);
-    write_fields(w, src, out, slots, kinds)
-}
-
-// The fields, whose slots stand behind those of key and version.
-fn write_fields(w: Writer, src: &[u8], out: &mut [u8], slots: &[u64], kinds: Kinds) -> Writer
-    ensures { λ r. ⌜ state r (now (out .exit)) ≡ stepRow (rowFrom kinds) (now (src .entry)) (unflatRow (rowFrom kinds) (drop 2 (now (slots .entry)))) (state w (now (out .entry))) ⌝ }
-{
-    let first = kinds.first;
-    let second = kinds.second;
-    let third = kinds.third;
-    let w = write_field(w, src, out, slots, 2, first);
-    let at = 2 + slots_of(first);
-    let w = write_field(w, src, out, slots, at, second);
-    let at = at + slots_of(second);
-    let w = write_field(w, src, out, slots, at, third);
-    let at = at + slots_of(third);
-    let fourth = kinds.fourth;
-    let fifth = kinds.fifth;
-    let sixth = kinds.sixth;
-    let w = write_field(w, src, out, slots, at, fourth);
-    let at = at + slots_of(fourth);
-    let w = write_field(w, src, out, slots, at, fifth);
-    let at = at + slots_of(fifth);
-    write_field(w, src, out, slots, at, sixth)
-}
-
-// The field whose slots start at a place.
-fn write_field(
-    w: Writer,
-    src: &[u8],
-    out: &mut [u8],
-    slots: &[u64],
-    at: usize,
-    kind: Kind,
-) -> Writer
-    ensures { λ r. ⌜ state r (now (out .exit)) ≡ stepKind kind (now (src .entry)) (drop at (now (slots .entry))) (state w (now (out .entry))) ⌝ }
-{
-    let a = slot(slots, at, 0);
-    let b = slot(slots, at, 1);
-    let c = slot(slots, at, 2);
-    match kind {
-        Kind::Nothing => w,
-        Kind::U8 => write_u8(w, out, a),
-        Kind::U16 => write_u16(w, out, a),
-        Kind::U32 => write_u32(w, out, a),
-        Kind::U64 => write_u64(w, out, a),
-        Kind::Active => write_active(w, out, a),
-        Kind::Text => write_string(w, src, out, Form::Text, place_of(a, b)),
-        Kind::Reference => write_string(w, src, out, Form::Reference, place_of(a, b)),
-        Kind::NullableReference => write_nullable(w, src, out, Form::Reference, nullable_of(a, b)),
-        Kind::NullableBytes => write_nullable(w, src, out, Form::Bytes, nullable_of(a, b)),
-        Kind::Specification => write_offset(w, out, false, offset_of(a, b)),
-        Kind::SpecificationOrNone => write_specification_or_none(w, out, a, b),
-        Kind::List(element) => write_list(w, src, out, element, list_of(a, b, c)),
-        Kind::Chunk => write_chunk_slots(w, src, out, slots, at),
-    }
-}
-
-// A type above 5 gives 10.
-fn write_specification_or_none(w: Writer, out: &mut [u8], kind: u64, value: u64) -> Writer
-    ensures { λ r. ⌜ state r (now (out .exit)) ≡ stepField spec₀ [] (F.offset (unflatOffset true kind value)) (state w (now (out .entry))) ⌝ }
-{
-    if kind <= 5 {
-        return write_offset(w, out, true, offset_of(kind, value));
-    }
-    if w.refused != 0 {
-        return w;
-    }
-    if w.putting {
-        return write_offset(w, out, true, OffsetSpecification::Offset(0));
-    }
-    w.refuse(refusal::VALUE_NOT_ADMITTED)
+    write_fields(w, src, out, slots, fields)
 }

@@ -18,13 +18,8 @@ use Rattle.rules.specs.Writing.{Encoding, wrote, refuse, Writing, writeRow, wri
 use Rattle.frame_writing.specs.Written.{writingOf}
 use Rattle.frame_writing.specs.declared.writing.Written.{Written}
 use Rattle.frame_writing.specs.declared.writing.Written.the-variants.{Length, Refused}
-use Rattle.rules.specs.Writing as writing
 use Rattle.flat.specs.Unflat.{unflatFrame, writeFlat}
-use Rattle.fast_writing.specs.Answer.{WritesAs}
-use Rattle.fast_writing.specs.declared.writing.Fast.{Fast}
-use Rattle.fast_writing.specs.declared.writing.Fast.the-variants as fast
 use Rattle.krevilosh.specs.Answer.{answer, LengthFits, writtenNumber}
-use Rattle.krevilosh.proofs.Answers.{fits-above}
 
 abbrev Fits : Writing → Type 0
 Fits w = LengthFits (w .answer)
@@ -48,9 +43,12 @@ decided-fits (layout k v) f src limit out = encoded-fits k v (writeRow (rowOf k 
 decided-fits unlistedKey f src limit out = tt
 decided-fits unlistedVersion f src limit out = tt
 
-pub length-fits : (s src : List ℕ) (limit : ℕ) (out : List ℕ) (w : Writing) → w ≡ writeFlat s src limit out → Fits w
+length-fits : (s src : List ℕ) (limit : ℕ) (out : List ℕ) (w : Writing) → w ≡ writeFlat s src limit out → Fits w
 unfolding writeFlat writeFrame
 length-fits s src limit out w e = subst Fits (sym e) (decided-fits (decide (unflatFrame s .key) (unflatFrame s .version)) (unflatFrame s) src limit out)
+
+fits-above : (n : ℕ) → n ≤ 4294967299 → n < 0x100_0000_0000_0000
+fits-above n h = omega (arith, h)
 
 -- What the host gets, by the case.
 module _ (v : Written) (o : List ℕ) (x : Writing) (e : writingOf v o ≡ x) where
@@ -66,23 +64,3 @@ module _ (v : Written) (o : List ℕ) (x : Writing) (e : writingOf v o ≡ x) wh
   pub length-below : (n : ℕ) (s src : List ℕ) (limit : ℕ) (out : List ℕ) → v ≡ Length n → x ≡ writeFlat s src limit out → n < 0x100_0000_0000_0000
   length-below n s src limit out i j =
       fits-above n (length-fits s src limit out (writingOf (Length n) o) (as-told (Length n) i ∙ j))
-
--- What the fast writer tells.
-module _ (v : Fast) (x : Writing) (old new : List ℕ) (h : WritesAs x old v new) where
-  fast-written : (n : ℕ) → v ≡ fast.Length n → x ≡ record { answer = writing.length n; out = new }
-  fast-written n i = subst (λ (y : Fast). WritesAs x old y new) i h
-
-  pub fast-told : (n r : ℕ) → v ≡ fast.Length n → r ≡ answer 0 n → (r ≡ writtenNumber (x .answer)) × (new ≡ x .out)
-  fast-told n r i j = let f = fast-written n i in (j ∙ sym (ap (λ (y : Writing). writtenNumber (y .answer)) f), sym (ap (λ (y : Writing). y .out) f))
-
-  pub fast-below : (n : ℕ) (s src : List ℕ) (limit : ℕ) (out : List ℕ) → v ≡ fast.Length n → x ≡ writeFlat s src limit out → n < 0x100_0000_0000_0000
-  fast-below n s src limit out i j = fits-above n (subst Fits (fast-written n i) (length-fits s src limit out x j))
-
-  pub unwritten : v ≡ fast.Unwritten → new ≡ old
-  unwritten i = subst (λ (y : Fast). WritesAs x old y new) i h
-
--- What is answered with an output that was left alone.
-pub as-written : (s src : List ℕ) (limit : ℕ) (old new out : List ℕ) (r : ℕ) → new ≡ old
-    → (r ≡ writtenNumber (writeFlat s src limit new .answer)) × (out ≡ writeFlat s src limit new .out)
-    → (r ≡ writtenNumber (writeFlat s src limit old .answer)) × (out ≡ writeFlat s src limit old .out)
-as-written s src limit old new out r i h = rw (← i) h

@@ -1,16 +1,16 @@
 -- What the functions that the host calls hand back: one number whose low 8 bits are the refusal's number, 0 where the call
--- is accepted, with what else there is to say above them; and what stands behind each pointer afterwards.
-use mathlib.Core.List.{List}
+-- is accepted, with what else there is to say above them.
 use mathlib.Core.Option.{Option, none, some}
 use Prim.Native.Nat.{ℕ, _+_, _*_, _≤_}
 use Rattle.rules.specs.Reading.{Reading, frame, short, refusal}
 use Rattle.rules.specs.Writing.{Written, length}
 use Rattle.rules.specs.Writing as writing
 use Rattle.protocol.specs.Refusals as refusals
-use Rattle.ledger.specs.Calls.{Answer, accepted, refused}
+use Rattle.ledger.specs.Calls.{accepted, refused}
 use Rattle.credit.specs.Calls as credit
 use Rattle.publisher.specs.Calls as publisher
-use Rattle.flat.specs.Flat.{flatFrame}
+use Rattle.frame_reading.specs.declared.reading.FrameRead.{FrameRead}
+use Rattle.frame_reading.specs.declared.reading.FrameRead.the-variants.{Frame, Short, Refused}
 
 abbrev pub answer : ℕ → ℕ → ℕ
 answer number value = number + 256 * value
@@ -21,17 +21,17 @@ readNumber (frame f) = 0
 readNumber (short needed) = answer refusals.short needed
 readNumber (refusal n place) = n
 
--- The frame's slots after reading: a refusal leaves them as they were.
-abbrev pub readSlots : List ℕ → Reading → List ℕ
-readSlots old (frame f) = flatFrame f
-readSlots old (short needed) = old
-readSlots old (refusal n place) = old
+-- The same of the answer of reading into slots.
+abbrev pub numberRead : FrameRead → ℕ
+numberRead Frame = 0
+numberRead (Short needed) = answer refusals.short needed
+numberRead (Refused n place) = n
 
 -- What a frame of any length needs fits the bits above the refusal's number.
-abbrev pub NeededFits : Reading → Type 0
-NeededFits (frame f) = Unit
-NeededFits (short needed) = needed ≤ 4294967299
-NeededFits (refusal n place) = Unit
+abbrev pub NeededFits : FrameRead → Type 0
+NeededFits Frame = Unit
+NeededFits (Short needed) = needed ≤ 4294967299
+NeededFits (Refused n place) = Unit
 
 -- An accepted write comes with the frame's length.
 abbrev pub writtenNumber : Written → ℕ
@@ -54,11 +54,6 @@ creditNumber (accepted y) = 0
 creditNumber (refused (credit.number n)) = n
 creditNumber (refused (credit.short needed)) = answer refusals.short needed
 creditNumber (refused (credit.unread n place)) = n
-
-abbrev pub creditSlots : List ℕ → credit.Reply → List ℕ
-creditSlots old (accepted credit.nothing) = old
-creditSlots old (accepted (credit.frame f)) = flatFrame f
-creditSlots old (refused r) = old
 
 -- The answers of the publisher ledger.
 abbrev pub publisherNumber : publisher.Reply → ℕ

@@ -3,11 +3,9 @@ ghost use mathlib.Core.Path.{_≡_};
 ghost use Rattle.flat.specs.Unflat.{writeFlat};
 ghost use Rattle.krevilosh.specs.Answer.{writtenNumber};
 use crate::packed;
-use fast_writing::Fast;
 use frame_writing::Written;
 
-// The flat frame, whose places are in the source, to the start of out, under a frame limit. What the fast writer leaves, the
-// writer that knows every layout and every refusal writes.
+// The flat frame, whose places are in the source, to the start of out, under a frame limit.
 #[no_mangle]
 pub extern "C" fn krevilosh_write(
     frame: &[u64; 24],
@@ -18,18 +16,7 @@ pub extern "C" fn krevilosh_write(
     ensures { λ r. ⌜ r ≡ writtenNumber (writeFlat (now (frame .entry)) (now (source .entry)) limit (now (out .entry)) .answer) ⌝ }
     ensures { λ _. ⌜ now (out .exit) ≡ writeFlat (now (frame .entry)) (now (source .entry)) limit (now (out .entry)) .out ⌝ }
 {
-    match fast_writing::write(frame, source, limit, out) {
-        Fast::Length(length) => packed(0, length),
-        Fast::Unwritten => write_any(frame, source, limit, out),
-    }
-}
-
-// A frame of any layout.
-fn write_any(frame: &[u64; 24], source: &[u8], limit: u32, out: &mut [u8]) -> u64
-    ensures { λ r. ⌜ r ≡ writtenNumber (writeFlat (now (frame .entry)) (now (source .entry)) limit (now (out .entry)) .answer) ⌝ }
-    ensures { λ _. ⌜ now (out .exit) ≡ writeFlat (now (frame .entry)) (now (source .entry)) limit (now (out .entry)) .out ⌝ }
-{
-    match frame_writing::write_slots(&frame[..], source, limit, out) {
+    match frame_writing::write(frame, source, limit, out) {
         Written::Length(length) => packed(0, length),
         Written::Refused(number) => number as u64,
     }

@@ -1,10 +1,13 @@
 -- The elements that have loops of their own end where their last field does: a refusal of any field is the element's, and
 -- two fields of one kind are the field twice. Assumes nothing.
 use mathlib.Core.Path.{_≡_, refl, _∙_, sym}
-use mathlib.Core.Bool.{false}
+use mathlib.Core.Bool.{Bool, true, false}
 use mathlib.Core.List.{List, [], _∷_}
 use Prim.Native.Nat.{ℕ, _+_, _<_, _≤_}
+use lib.Dec.{ltb}
 use lib.ListN.{length}
+use native.Mathlib.Omega.{arith}
+use borrow.Author.Tests.{ltb-true, ltb-false}
 use Rattle.wire.specs.Integers.{Bytes, bigEndian}
 use Rattle.protocol.specs.Fields.{Field, number}
 use Rattle.protocol.specs.Kinds.{Kind, T, elementRow, end, _·_}
@@ -16,7 +19,7 @@ use Rattle.rules.specs.Reading.{readUnsigned, readString, readField, readRow}
 use Rattle.rules.proofs.Bounds.{bounded-field}
 use Rattle.rules.proofs.Numbers.{number-there, number-cut, whole-width}
 use Rattle.fields.specs.Ends.{endOf}
-use Rattle.fields.proofs.PlainEnds.{end-step, end-refused}
+use Rattle.fields.proofs.PlainEnds.{end-step, end-refused, string-no-length}
 
 module _ (s : List ℕ) (at : ℕ) where
   pub name-end : (r : ℕ) → r ≡ endOf (readString Text false s at) → r ≡ endOf (readRow (elementRow Name) s at)
@@ -27,9 +30,9 @@ module _ (s : List ℕ) (at : ℕ) where
       by (got f next) e = e
       by (refused n p) e = e
 
-  pub message-cut : length s < at + 8 → 0 ≡ endOf (readRow (elementRow Message) s at)
+  pub id-cut : length s < at + 8 → 0 ≡ endOf (readRow (elementRow Message) s at)
   unfolding readRow readField readUnsigned
-  message-cut h = rw (number-cut 8 s at h)
+  id-cut h = rw (number-cut 8 s at h)
 
   pub message-end : (r : ℕ) → Bytes s → at + 8 ≤ length s → r ≡ endOf (readString Raw false s (at + 8)) → r ≡ endOf (readRow (elementRow Message) s at)
   unfolding readRow readField
@@ -38,6 +41,14 @@ module _ (s : List ℕ) (at : ℕ) where
       by : (g : Field Place) (o : Outcome (Field Place)) → r ≡ endOf o → r ≡ endOf (then (then o (λ f next. got (f ∷ []) next)) (λ fs behind. got (g ∷ fs) behind))
       by g (got f next) e = e
       by g (refused n p) e = e
+
+  -- The publishing id is cut, or the message's length is.
+  pub message-cut : Bytes s → length s < at + 12 → 0 ≡ endOf (readRow (elementRow Message) s at)
+  message-cut b h = by (ltb (length s) (at + 8)) refl
+    where
+      by : (t : Bool) → ltb (length s) (at + 8) ≡ t → 0 ≡ endOf (readRow (elementRow Message) s at)
+      by true i = id-cut (ltb-true _ _ i)
+      by false i = message-end 0 b (ltb-false _ _ i) (string-no-length Raw s (at + 8) (omega arith))
 
   -- Two fields of one kind are the field twice.
   twice : (k : Kind) → endOf (readRow (k · k · end) s at) ≡ endOf (repeated (readField k) 2 s at)

@@ -43,14 +43,14 @@ pub fn messages_end(s: &[u8], start: usize, count: usize) -> usize
     at
 }
 
-// Eight bytes of the publishing id, and then the message.
+// Eight bytes of the publishing id, and then the message, whose length has four. One comparison tests for both.
 fn message_end(s: &[u8], at: usize) -> usize
     ensures { λ r. ⌜ r ≡ endOf (readRow (elementRow Message) (now (s .entry)) at) ⌝ }
 {
     if s.len() < at {
         return 0;
     }
-    if s.len() - at < 8 {
+    if s.len() - at < 12 {
         return 0;
     }
     bytes_end(s, at + 8)

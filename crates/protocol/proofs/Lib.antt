@@ -1,4 +1,5 @@
 -- Lemmas that belong to no one function.
 pub mod Unlisted
+pub mod Picked
 pub mod Counted
 pub mod FrameRows

@@ -4,6 +4,7 @@ pub mod ResponseCodes
 pub mod Kinds
 pub mod Table
 pub mod TableFacts
+pub mod Layouts
 pub mod Decision
 pub mod Fields
 pub mod Frames

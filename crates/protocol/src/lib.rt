@@ -1,5 +1,6 @@
 // The protocol's vocabulary: refusal numbers, response codes, keys and their layouts, and the typed frame.
 mod chunk;
+pub mod field;
 mod frame;
 mod kind;
 mod layout;
@@ -13,7 +14,7 @@ pub use chunk::ChunkHeader;
 pub use frame::Frame;
 pub use kind::Element;
 pub use kind::Form;
-pub use layout::Layout;
+pub use layout::Decided;
 pub use layout::Picked;
 pub use layout::layout_of;
 pub use offset::OffsetSpecification;

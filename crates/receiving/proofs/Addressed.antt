@@ -1,14 +1,13 @@
--- What the first bytes of a frame tell before it is read. A frame's key is the two bytes at 4; under key 8 the content
--- begins with a number of one byte, and the content begins at 8. So the id is that byte, and the ledger's answer is
--- known. Assumes nothing.
-use Prim.Native.Nat.{ℕ, zero, suc, _+_, _-_, _*_, _≤_, _<_}
+-- What the first bytes of a frame tell of its subscription. A frame's key is the two bytes at 4; under key 8 the content
+-- begins with a number of one byte, and the content begins at 8. So the id is that byte. Assumes nothing.
+use Prim.Native.Nat.{ℕ, _+_, _-_, _*_, _≤_, _<_}
 use mathlib.Core.Path.{_≡_, refl, sym, ap, ap₂, subst, _∙_}
 use mathlib.Core.Bool.{Bool, true, false, cond, _&&_}
 use mathlib.Core.List.{List, map}
 use mathlib.Core.Option.{Option, none, some}
 use native.Mathlib.Omega.{arith}
 use borrow.Author.Tests.{lt-ltb, le-ltb, eq-eqb, ne-eqb, eqb-true, eqb-false}
-use lib.Dec.{eqb, ltb, leb, leb·suc-suc, leb·suc-zero}
+use lib.Dec.{eqb, ltb}
 use lib.ListN.{length, getD, take, drop}
 use lib.Seq.{getD-take, getD-drop}
 use Rattle.wire.specs.Integers.{bigEndian}
@@ -23,14 +22,9 @@ use Rattle.rules.specs.Reading as rules
 use Rattle.rules.proofs.Gives.{Gives, check, after, after-number, frame-cases}
 use Rattle.rules.proofs.Listed.{differ, itself}
 use Rattle.rules.proofs.Parts.{length-part}
-use Rattle.ledger.specs.Calls.{accepted, answerBy}
-use Rattle.ledger.specs.Calls as calls
-use Rattle.ledger.specs.Rules.{refusal, decode, entryAt, answerTo, ledgerAfter}
-use Rattle.credit.specs.Calls.{received, frame, Reply, number as refusing, firstNumber, deliverId}
-use Rattle.credit.specs.Step.{spend, actOnFrame, answer}
-use Rattle.credit.specs.Step as step
-use Rattle.receiving.specs.Subscription.{addressed, admitted, affords, spent}
+use Rattle.credit.specs.Calls.{firstNumber, deliverId}
 use Rattle.credit.proofs.Ids.{first-moved}
+use Rattle.receiving.specs.Subscription.{addressed}
 
 -- ---- The bytes at 4 and 8
 
@@ -153,28 +147,3 @@ addressed-id s limit f e =
     (frame-cases (Tells (addressed s)) (λ _. tt) (λ _ _. tt) s limit (λ _ l w k v d.
     let i = itself (bigEndian 2 s 4) (bigEndian 2 s 6) k v d in
     layout-tells s (bigEndian 4 s 0) l w k v (i .0) (ap₂ decide (i .0) (i .1) ∙ d)))
-
--- ---- The ledger's answer
-
--- An entry is the balance and 1, so that n can be taken exactly if the entry is above n.
-pub enough : (n k e : ℕ) → ltb n e ≡ admitted (refusal (calls.take n k) (decode e))
-enough n k zero = leb·suc-zero n
-enough n k (suc b) = leb·suc-suc n b ∙ by (leb n b)
-  where
-    by : (t : Bool) → t ≡ admitted (cond t none (some k))
-    by true = refl
-    by false = refl
-
--- A frame that the ledger has a credit for, or that needs none, is answered as it is read, and its credit is spent.
-pub afforded : (l s : List ℕ) (limit : ℕ) (f : Fields Place) → readFrame s limit ≡ rules.frame f → affords l (addressed s) ≡ true
-    → (answer l (received s limit) ≡ accepted (frame f)) × (step.after l (received s limit) ≡ spent l (addressed s))
-afforded l s limit f e h = rw (e, addressed-id s limit f e) (by (addressed s) h)
-  where
-    yields : (o : Option ℕ) → admitted o ≡ true → _≡_ {A = Reply} (answerBy refusing o (frame f)) (accepted (frame f))
-    yields none h = refl
-    yields (some n) h = absurd (differ h)
-
-    by : (o : Option ℕ) → affords l o ≡ true
-        → (answerTo refusing l (actOnFrame o f) ≡ accepted (frame f)) × (ledgerAfter l (actOnFrame o f) ≡ spent l o)
-    by none h = (refl, refl)
-    by (some i) h = (yields (refusal spend (entryAt l i)) h, refl)

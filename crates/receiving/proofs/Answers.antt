@@ -1,7 +1,9 @@
--- What a received frame is answered, by what reading gives. Assumes nothing.
-use Prim.Native.Nat.{ℕ}
-use mathlib.Core.Path.{_≡_, refl, ap}
+-- What a received frame is answered, by what reading answers and what the ledger says. Assumes nothing.
+use Prim.Native.Nat.{ℕ, zero, suc}
+use mathlib.Core.Path.{_≡_, refl, sym, ap, subst, _∙_}
+use mathlib.Core.Bool.{Bool, true, false, cond}
 use mathlib.Core.List.{List, [], _∷_}
+use lib.Dec.{ltb, leb, leb·suc-suc, leb·suc-zero}
 use mathlib.Core.Option.{Option, none, some}
 use types.Run.{OneOf, miss}
 use denote.Enum.Declared.{tagOf}
@@ -9,32 +11,87 @@ use Rattle.protocol.specs.Fields.{Fields}
 use Rattle.protocol.specs.declared.place.Place.{Place}
 use Rattle.rules.specs.Reading.{readFrame}
 use Rattle.rules.specs.Reading as rules
-use Rattle.layouts.specs.Answer.{answerOf}
-use Rattle.layouts.specs.declared.reading.Reading.{Reading}
-use Rattle.layouts.specs.declared.reading.Reading.the-variants.{Frame, Short, Refused}
-use Rattle.layouts.proofs.reading.Reading.{the-type}
-use Rattle.ledger.specs.Calls.{answerBy}
-use Rattle.ledger.specs.Rules.{refusal, entryAt, ledgerAt, answerTo, ledgerAfter}
-use Rattle.credit.specs.Calls.{received, frame, number, readAnswer, deliverId}
-use Rattle.credit.specs.Step.{answer, after, actOnReading, spend}
+use Rattle.flat.specs.Flat.{flatFrame}
+use Rattle.frame_reading.specs.Answer.{told}
+use Rattle.frame_reading.specs.Answer as reading
+use Rattle.frame_reading.specs.declared.reading.FrameRead.{FrameRead}
+use Rattle.frame_reading.specs.declared.reading.FrameRead.the-variants.{Frame}
+use Rattle.frame_reading.proofs.Told.{frame-told, slots-told}
+use Rattle.frame_reading.proofs.reading.FrameRead.{the-type}
+use Rattle.ledger.specs.Calls.{take, answerBy}
+use Rattle.ledger.specs.Rules.{refusal, decode, entryAt, answerTo, ledgerAfter}
+use Rattle.credit.specs.Calls.{received, frame, number}
+use Rattle.credit.specs.Step.{answer, after, actOnFrame, actOnReading, spend}
+use Rattle.receiving.specs.Answer.{answerOf, slotsAfter}
+use Rattle.receiving.specs.Subscription.{addressed, refusalFor, admitted, affords, spent}
+use Rattle.receiving.specs.declared.receiving.Received.{Received}
+use Rattle.receiving.specs.declared.receiving.Received.the-variants as answers
+use Rattle.rules.proofs.Listed.{differ}
+use Rattle.receiving.proofs.Addressed.{addressed-id}
 
-module _ (l s : List ℕ) (limit : ℕ) where
+module _ (l s : List ℕ) (limit : ℕ) (old : List ℕ) where
+  -- The answer, the ledger and the slots that the contract asks for.
+  abbrev pub Answers : Received → List ℕ → List ℕ → Type 0
+  Answers r l' new = (r ≡ answerOf (answer l (received s limit))) × ((l' ≡ after l (received s limit)) × (new ≡ slotsAfter old (answer l (received s limit))))
+
   -- A refusal of reading.
-  own : (r : Reading) → OneOf (1 ∷ 2 ∷ []) (tagOf the-type r)
-      → (readAnswer (answerOf r) ≡ answerTo number l (actOnReading (answerOf r))) × (l ≡ ledgerAfter l (actOnReading (answerOf r)))
-  own (Frame f) k = absurd (miss (1 ∷ 2 ∷ []) 0 tt k)
-  own (Short needed) k = (refl, refl)
-  own (Refused n place) k = (refl, refl)
+  pub no-frame : (r : FrameRead) → r ≡ told (readFrame s limit) → OneOf (1 ∷ 2 ∷ []) (tagOf the-type r) → Answers (answers.Reading r) l old
+  no-frame r e k = by (readFrame s limit) e
+    where
+      by : (x : rules.Reading) → r ≡ told x → (answers.Reading r ≡ answerOf (answerTo number l (actOnReading x))) × ((l ≡ ledgerAfter l (actOnReading x)) × (old ≡ slotsAfter old (answerTo number l (actOnReading x))))
+      by (rules.frame f) e = absurd (miss (1 ∷ 2 ∷ []) 0 tt (subst (λ (x : FrameRead). OneOf (1 ∷ 2 ∷ []) (tagOf the-type x)) e k))
+      by (rules.short needed) e = (ap answers.Reading e, (refl, refl))
+      by (rules.refusal n place) e = (ap answers.Reading e, (refl, refl))
 
-  pub no-frame : (r : Reading) → answerOf r ≡ readFrame s limit → OneOf (1 ∷ 2 ∷ []) (tagOf the-type r)
-      → (readAnswer (answerOf r) ≡ answer l (received s limit)) × (l ≡ after l (received s limit))
-  no-frame r e k = rw (← e) (own r k)
+  -- Slots that such a reading left.
+  pub not-read : (r : FrameRead) (new : List ℕ) → r ≡ told (readFrame s limit) → new ≡ reading.slotsAfter old (readFrame s limit) → OneOf (1 ∷ 2 ∷ []) (tagOf the-type r) → Answers (answers.Reading r) l new
+  not-read r new e h k = let a = no-frame r e k in (a .0, (a .1 .0, h ∙ left (readFrame s limit) e ∙ a .1 .1))
+    where
+      left : (x : rules.Reading) → r ≡ told x → reading.slotsAfter old x ≡ old
+      left (rules.frame f) e = absurd (miss (1 ∷ 2 ∷ []) 0 tt (subst (λ (x : FrameRead). OneOf (1 ∷ 2 ∷ []) (tagOf the-type x)) e k))
+      left (rules.short needed) e = refl
+      left (rules.refusal n place) e = refl
 
-  pub no-deliver : (f : Fields Place) → rules.frame f ≡ readFrame s limit → none ≡ deliverId f
-      → (readAnswer (rules.frame f) ≡ answer l (received s limit)) × (l ≡ after l (received s limit))
-  no-deliver f e n = rw (← e, ← n) (refl, refl)
+  -- A frame that was read into slots.
+  module _ (r : FrameRead) (is : r ≡ Frame) (t : r ≡ told (readFrame s limit)) (z new : List ℕ) (h : new ≡ reading.slotsAfter z (readFrame s limit)) (o : Option ℕ) (l' : List ℕ) (a : o ≡ addressed s) (q : l' ≡ spent l o) where
+    abbrev f : Fields Place
+    f = frame-told (readFrame s limit) (sym is ∙ t) .0
 
-  pub deliver : (f : Fields Place) (i : ℕ) (o : Option ℕ) (l' : List ℕ) → rules.frame f ≡ readFrame s limit → some i ≡ deliverId f
-      → o ≡ refusal spend (entryAt l i) → l' ≡ ledgerAt l i spend
-      → (answerBy number o (frame f) ≡ answer l (received s limit)) × (l' ≡ after l (received s limit))
-  deliver f i o l' e n p q = rw (← e, ← n) (ap (λ (x : Option ℕ). answerBy number x (frame f)) p, q)
+    read : readFrame s limit ≡ rules.frame f
+    read = sym (frame-told (readFrame s limit) (sym is ∙ t) .1)
+
+    slots : new ≡ flatFrame f
+    slots = slots-told f (readFrame s limit) z new (sym read) h
+
+    -- The ledger has a credit for it, or it needs none.
+    pub handed : affords l o ≡ true → Answers (answers.Reading r) l' new
+    handed h = rw (read, addressed-id s limit f read ∙ sym a) (by o h q)
+      where
+        with-credit : (x : Option ℕ) → admitted x ≡ true → (answers.Reading r ≡ answerOf (answerBy number x (frame f))) × (new ≡ slotsAfter old (answerBy number x (frame f)))
+        with-credit none h = (ap answers.Reading is, slots)
+        with-credit (some n) h = absurd (differ h)
+
+        by : (o : Option ℕ) → affords l o ≡ true → l' ≡ spent l o → (answers.Reading r ≡ answerOf (answerTo number l (actOnFrame o f))) × ((l' ≡ ledgerAfter l (actOnFrame o f)) × (new ≡ slotsAfter old (answerTo number l (actOnFrame o f))))
+        by none h q = (ap answers.Reading is, (q, slots))
+        by (some i) h q = let w = with-credit (refusal spend (entryAt l i)) h in (w .0, (q, w .1))
+
+    -- The ledger refuses it.
+    pub refused : (k : ℕ) → some k ≡ refusalFor l o → Answers (answers.Refused k) l' old
+    refused k p = rw (read, addressed-id s limit f read ∙ sym a) (by o p q)
+      where
+        by : (o : Option ℕ) → some k ≡ refusalFor l o → l' ≡ spent l o → (answers.Refused k ≡ answerOf (answerTo number l (actOnFrame o f))) × ((l' ≡ ledgerAfter l (actOnFrame o f)) × (old ≡ slotsAfter old (answerTo number l (actOnFrame o f))))
+        by none p q = absurd (differ (ap admitted p))
+        by (some i) p q = (ap (λ (x : Option ℕ). answerOf (answerBy number x (frame f))) p, (q, ap (λ (x : Option ℕ). slotsAfter old (answerBy number x (frame f))) p))
+
+-- What the ledger does not refuse, it has a credit for.
+pub afforded : (l : List ℕ) (o : Option ℕ) (t : Bool) → t ≡ affords l o → t ≡ false → none ≡ refusalFor l o → ⊥
+afforded l o t e f p = differ (sym f ∙ e ∙ sym (ap admitted p))
+
+-- An entry is the balance and 1, so that n can be taken exactly if the entry is above n.
+pub enough : (n k e : ℕ) → ltb n e ≡ admitted (refusal (take n k) (decode e))
+enough n k zero = leb·suc-zero n
+enough n k (suc b) = leb·suc-suc n b ∙ by (leb n b)
+  where
+    by : (t : Bool) → t ≡ admitted (cond t none (some k))
+    by true = refl
+    by false = refl

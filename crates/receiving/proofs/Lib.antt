@@ -1,4 +1,3 @@
--- What is known of a frame before it is read, and what the code has to show.
-mod Tags
+-- What a frame's first bytes say of its subscription, and what the code has to show.
 mod Answers
-pub mod Addressed
+mod Addressed

@@ -1,10 +1,21 @@
--- What the code's answers say.
-use Rattle.layouts.specs.Answer.{answerOf}
-use Rattle.ledger.specs.Calls.{refused}
-use Rattle.credit.specs.Calls.{number, Reply, readAnswer}
+-- What receiving into slots answers, and what the slots hold afterwards.
+use mathlib.Core.List.{List}
+use Prim.Native.Nat.{ℕ}
+use Rattle.ledger.specs.Calls.{accepted, refused}
+use Rattle.credit.specs.Calls.{Reply, nothing, frame, number, short, unread}
+use Rattle.flat.specs.Flat.{flatFrame}
+use Rattle.frame_reading.specs.declared.reading.FrameRead.the-variants as reading
 use Rattle.receiving.specs.declared.receiving.Received.{Received}
 use Rattle.receiving.specs.declared.receiving.Received.the-variants.{Reading, Refused}
 
-abbrev pub answerOfReceived : Received → Reply
-answerOfReceived (Reading r) = readAnswer (answerOf r)
-answerOfReceived (Refused n) = refused (number n)
+abbrev pub answerOf : Reply → Received
+answerOf (accepted y) = Reading reading.Frame
+answerOf (refused (short needed)) = Reading (reading.Short needed)
+answerOf (refused (unread n place)) = Reading (reading.Refused n place)
+answerOf (refused (number n)) = Refused n
+
+-- A refusal leaves the slots as they were.
+abbrev pub slotsAfter : List ℕ → Reply → List ℕ
+slotsAfter old (accepted nothing) = old
+slotsAfter old (accepted (frame f)) = flatFrame f
+slotsAfter old (refused r) = old

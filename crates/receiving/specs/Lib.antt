@@ -1,3 +1,3 @@
--- What the code's answers say, and what is known of a frame before it is read.
+-- What receiving answers, and the subscription that a frame is for.
 pub mod Answer
 pub mod Subscription

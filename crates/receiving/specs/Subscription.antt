@@ -22,16 +22,19 @@ idOf Nothing = none
 abbrev pub addressed : List ℕ → Option ℕ
 addressed s = cond (ltb 8 (length s) && eqb (bigEndian 2 s 4) 0x0008) (some (getD s 8 0)) none
 
+-- The ledger's refusal of a frame for this id; a frame for no id spends nothing.
+abbrev pub refusalFor : List ℕ → Option ℕ → Option ℕ
+refusalFor l none = none
+refusalFor l (some i) = refusal spend (entryAt l i)
+
 -- No refusal's number.
 abbrev pub admitted : Option ℕ → Bool
 admitted none = true
 admitted (some n) = false
 
--- Whether the ledger will not refuse a frame for this id: spending is not refused there, and a frame for no id spends
--- nothing.
+-- Whether the ledger will not refuse a frame for this id.
 abbrev pub affords : List ℕ → Option ℕ → Bool
-affords l none = true
-affords l (some i) = admitted (refusal spend (entryAt l i))
+affords l o = admitted (refusalFor l o)
 
 -- The ledger after a frame for this id was read.
 abbrev pub spent : List ℕ → Option ℕ → List ℕ

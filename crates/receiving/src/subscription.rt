@@ -1,6 +1,8 @@
 // What a frame's first bytes say of its subscription: whether the ledger will refuse the frame is known before it is read.
 ghost use mathlib.Core.Path.{_≡_};
-ghost use Rattle.receiving.specs.Subscription.{idOf, addressed, affords, spent};
+ghost use Rattle.ledger.specs.Answers.{numberOf};
+ghost use Rattle.receiving.specs.Subscription.{idOf, addressed, refusalFor, affords, spent};
+use ledger::Change;
 use protocol::refusal;
 
 // The subscription that a Deliver is for; other frames are for none.
@@ -38,13 +40,12 @@ pub fn affords(credits: &[u32; 257], subscription: Subscription) -> bool
 }
 
 // Takes the credit of a frame that was read.
-pub fn spend(credits: &mut [u32; 257], subscription: Subscription)
+pub fn spend(credits: &mut [u32; 257], subscription: Subscription) -> Change
+    ensures { λ r. ⌜ numberOf r ≡ refusalFor (now (credits .entry)) (idOf subscription) ⌝ }
     ensures { λ _. ⌜ now (credits .exit) ≡ spent (now (credits .entry)) (idOf subscription) ⌝ }
 {
     match subscription {
-        Subscription::Id(id) => {
-            ledger::take(credits, id, 1, refusal::NO_CREDIT);
-        }
-        Subscription::Nothing => {}
+        Subscription::Id(id) => ledger::take(credits, id, 1, refusal::NO_CREDIT),
+        Subscription::Nothing => Change::Accepted,
     }
 }

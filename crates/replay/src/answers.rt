@@ -1,5 +1,5 @@
 // The answers on standard output, a line each.
-use layouts::Reading;
+use frame_reading::FrameRead;
 use ledger::Change;
 use ledger::IdState;
 use libc::STDOUT_FILENO;
@@ -19,11 +19,11 @@ pub fn received(answer: Received) {
     }
 }
 
-fn read(reading: Reading) {
+fn read(reading: FrameRead) {
     match reading {
-        Reading::Frame(_) => accepted(),
-        Reading::Short { needed: n } => short(n),
-        Reading::Refused {
+        FrameRead::Frame => accepted(),
+        FrameRead::Short { needed: n } => short(n),
+        FrameRead::Refused {
             number: n,
             place: p,
         } => misread(n, p),

@@ -42,5 +42,6 @@ fn call(line: &[u8], credits: &mut [u32; 257], publishers: &mut [u32; 257]) {
 fn receive(line: &[u8], credits: &mut [u32; 257], limit: u32, from: usize) {
     let mut buffer = io::buffer();
     let n = script::hex(line, from, &mut buffer);
-    answers::received(receiving::receive(credits, &buffer[..n], limit));
+    let mut slots = [0u64; 24];
+    answers::received(receiving::receive(credits, &buffer[..n], limit, &mut slots));
 }

@@ -3,8 +3,8 @@ ghost use Prim.Native.Nat.{_≤_};
 ghost use lib.ListN.{length};
 use crate::text;
 use frame_writing::Written;
-use layouts::Reading;
 use protocol::Frame;
+use typed_frames::Reading;
 
 // As far as frames come back as they were.
 pub fn walk(s: &[u8]) {
@@ -27,7 +27,7 @@ pub fn walk(s: &[u8]) {
 fn trip(s: &[u8]) -> usize
     ensures { λ r. ⌜ r ≤ length (now (s .entry)) ⌝ }
 {
-    match frame_reading::read(s, 0) {
+    match typed_frames::read(s, 0) {
         Reading::Frame(frame) => written(s, frame),
         Reading::Short { .. } => 0,
         Reading::Refused { .. } => 0,
@@ -39,7 +39,7 @@ fn written(s: &[u8], frame: Frame) -> usize
 {
     let mut space = io::large_buffer();
     let out: &mut [u8] = &mut space;
-    match frame_writing::write(frame, s, 0, out) {
+    match typed_frames::write(frame, s, 0, out) {
         Written::Length(n) => compared(s, out, n as usize),
         Written::Refused(_) => 0,
     }
@@ -69,7 +69,7 @@ fn compared(s: &[u8], out: &[u8], len: usize) -> usize
 }
 
 fn is_frame(s: &[u8]) -> bool {
-    match frame_reading::read(s, 0) {
+    match typed_frames::read(s, 0) {
         Reading::Frame(_) => true,
         Reading::Short { .. } => false,
         Reading::Refused { .. } => false,

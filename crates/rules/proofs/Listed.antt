@@ -7,7 +7,7 @@ use mathlib.Core.List.{List, [], _∷_}
 use Prim.Native.Nat.{ℕ, _^_, _<_}
 use lib.Dec.{eqb, ltb}
 use borrow.Author.Tests.{eqb-true, ltb-true}
-use Rattle.protocol.specs.Decision.{Versioned, versionsIn, Decision, layout, unlistedKey, unlistedVersion, ofVersion, among, decide}
+use Rattle.protocol.specs.Decision.{versionsIn, Decision, layout, unlistedKey, unlistedVersion, ofVersion, among, decide}
 use Rattle.protocol.specs.Kinds.{Kind, unsigned, signed, string, specification, list, chunk, Row, end, _·_}
 use Rattle.protocol.specs.Table.{Listing, table, rowIn, rowOf}
 use Rattle.rules.proofs.Gives.{choice}
@@ -20,7 +20,7 @@ both true b e = (refl, e)
 both false b e = absurd (differ e)
 
 -- A test of every line.
-abbrev every : (Listing → Bool) → List Listing → Bool
+abbrev pub every : (Listing → Bool) → List Listing → Bool
 every t [] = true
 every t (l ∷ ls) = t l && every t ls
 
@@ -35,7 +35,7 @@ For k v (layout key version) = (key ≡ k) × (version ≡ v) × (key < 256 ^ 2)
 For k v unlistedKey = Unit
 For k v unlistedVersion = Unit
 
-abbrev Under : ℕ → List Versioned → Type 0
+abbrev Under : ℕ → List Listing → Type 0
 Under k [] = Unit
 Under k (l ∷ ls) = ((l .key ≡ k) × (l .key < 256 ^ 2) × (l .version < 256 ^ 2)) × Under k ls
 
@@ -49,7 +49,7 @@ listed-under (l ∷ ls) k h =
     (λ e. ((sym (eqb-true k (l .key) e), ltb-true (l .key) (256 ^ 2) (u .0), ltb-true (l .version) (256 ^ 2) (u .1)), listed-under ls k (t .1)))
     (λ _. listed-under ls k (t .1))
 
-of-version : (k v : ℕ) (ls : List Versioned) → Under k ls → For k v (ofVersion v ls)
+of-version : (k v : ℕ) (ls : List Listing) → Under k ls → For k v (ofVersion v ls)
 unfolding ofVersion
 of-version k v [] h = tt
 of-version k v (l ∷ ls) h =
@@ -65,7 +65,7 @@ decided : (k v : ℕ) → For k v (decide k v)
 unfolding decide
 decided k v = by (versionsIn table k) (listed-under table k table-two-bytes)
   where
-    by : (ls : List Versioned) → Under k ls → For k v (among ls v)
+    by : (ls : List Listing) → Under k ls → For k v (among ls v)
     by [] h = tt
     by (l ∷ ls) h = of-version k v (l ∷ ls) h
 
@@ -107,7 +107,7 @@ abbrev mutual
   chunkLastIn last (k · row) = chunkLast (last && isEnd row) k && chunkLastIn last row
 
 -- A test that every row of the table passes, and the empty row.
-row-passes : (t : Row → Bool) → t end ≡ true → (ls : List Listing) (k v : ℕ) → every (λ l. t (l .row)) ls ≡ true → t (rowIn ls k v) ≡ true
+pub row-passes : (t : Row → Bool) → t end ≡ true → (ls : List Listing) (k v : ℕ) → every (λ l. t (l .row)) ls ≡ true → t (rowIn ls k v) ≡ true
 unfolding rowIn
 row-passes t e [] k v h = e
 row-passes t e (l ∷ ls) k v h =

@@ -1,7 +1,7 @@
 // Every key with versions 0, 1, 2, 3 and 65,535: the pairs that have a layout, and how many have none, and why.
 ghost use Prim.Native.Nat.{_<_};
 use crate::text;
-use protocol::Picked;
+use protocol::Decided;
 use protocol::refusal;
 
 pub fn run() {
@@ -55,9 +55,11 @@ fn one_if(t: bool) -> u64
 
 // The refusal number, or 0 where there is a layout.
 fn answer(key: u16, version: u16) -> u8 {
-    match protocol::layout_of(key, version) {
-        Picked::Layout(_) => 0,
-        Picked::UnknownKey => refusal::UNKNOWN_KEY,
-        Picked::UnknownVersion => refusal::UNKNOWN_VERSION,
+    let picked = protocol::layout_of(key, version);
+    let decided = picked.decided;
+    match decided {
+        Decided::Layout => 0,
+        Decided::UnknownKey => refusal::UNKNOWN_KEY,
+        Decided::UnknownVersion => refusal::UNKNOWN_VERSION,
     }
 }

@@ -1,11 +1,12 @@
 -- By what is there, and what reading says of it.
-use Rattle.captures.proofs.Followings.{nothing-left, something-left, frame-left}
-use Rattle.layouts.specs.Answer.{answerOf}
-use Rattle.wire.specs.Integers.{Bytes}
-use mathlib.Core.Path.{_∙_, refl, sym, ap}
-use Rattle.frame_reading.proofs.Sizes.{number-read}
+use mathlib.Core.Path.{_∙_, refl, sym}
 use native.Mathlib.Omega.{arith}
 use borrow.Author.Needs.{needs}
+use denote.Ref.{now}
+use Rattle.wire.specs.Integers.{Bytes}
+use Rattle.frame_reading.proofs.Sizes.{number-read}
+use Rattle.captures.proofs.Followings.{nothing-left, something-left, frame-left}
+use Rattle.frame_reading.proofs.Told.{short-told, refusal-told}
 use Rattle.captures.proofs.window.next_frame.Statement.{statement}
 use Rattle.captures.proofs.window.next_frame.Tie as tie
 
@@ -27,11 +28,27 @@ next-frame-spec =
     (λ c. search needs)
     (λ c. search needs)
     (λ c. search needs)
-    (λ c. something-left _ _ _ _ (c .before .before .before .before .before .if1 .left) (ap answerOf (sym (c .before .before .needed .given .1)) ∙ c .before .before .before .before .read .ensures) (c .if3 .taken))
+    (λ c.
+    let short = c .before .before in
+    let read = short .before .before in
+    something-left _ _ _ _ (read .before .before .if1 .left) (short-told _ _ (sym (short .needed .given .1) ∙ read .read .ensures .0)) (c .if3 .taken))
     (λ c. search needs)
-    (λ c. frame-left _ _ _ _ _ _ (c .before .before .before .before .before .before .before .before .before .before .before .if1 .left) (ap answerOf (sym (c .before .before .before .before .before .before .before .before .frame .given .1)) ∙ c .before .before .before .before .before .before .before .before .before .before .read .ensures)
-    (λ l. number-read 4 0xffff_ffff refl _ 0 _ _ _ (λ i. omega (arith, c .before .before .before .before .before .before .before .before .before .before .before .before .shared-slice-known .given i)) (omega (arith, l)) (c .before .before .before .before .before .before .within .ensures) (c .before .before .before .before .before .u32-field .ensures))
-    (λ l. number-read 2 0xffff refl _ 4 _ _ _ (λ i. omega (arith, c .before .before .before .before .before .before .before .before .before .before .before .before .shared-slice-known .given i)) (omega (arith, l)) (c .before .before .before .before .within2 .ensures) (c .before .before .before .u16-field .ensures))
-    (λ l. number-read 2 0xffff refl _ 6 _ _ _ (λ i. omega (arith, c .before .before .before .before .before .before .before .before .before .before .before .before .shared-slice-known .given i)) (omega (arith, l)) (c .before .before .within3 .ensures) (c .before .u16-field2 .ensures)))
-    (λ c. something-left _ _ _ _ (c .before .before .before .before .before .if1 .left) (ap answerOf (sym (c .before .before .needed .given .1)) ∙ c .before .before .before .before .read .ensures) (c .if3 .left))
-    (λ c. something-left _ _ _ _ (c .before .before .before .before .if1 .left) (ap answerOf (sym (c .before .number .given .1)) ∙ c .before .before .before .read .ensures) refl))
+    (λ c.
+    let version = c .before in
+    let key = version .before .before in
+    let size = key .before .before in
+    let frame = size .before .before in
+    let read = frame .before .before in
+    let known = read .before .before .before in
+    let bytes : Bytes (now (known .before .args .rest)) = λ i. omega (arith, known .shared-slice-known .given i) in
+    frame-left _ _ _ _ _ (read .before .before .if1 .left) (sym (frame .enum-told .given .1) ∙ read .read .ensures .0)
+    (λ l. number-read 4 0xffff_ffff refl _ 0 _ _ _ bytes (omega (arith, l)) (size .before .within .ensures) (size .u32-field .ensures))
+    (λ l. number-read 2 0xffff refl _ 4 _ _ _ bytes (omega (arith, l)) (key .before .within2 .ensures) (key .u16-field .ensures))
+    (λ l. number-read 2 0xffff refl _ 6 _ _ _ bytes (omega (arith, l)) (version .before .within3 .ensures) (version .u16-field2 .ensures)))
+    (λ c.
+    let short = c .before .before in
+    let read = short .before .before in
+    something-left _ _ _ _ (read .before .before .if1 .left) (short-told _ _ (sym (short .needed .given .1) ∙ read .read .ensures .0)) (c .if3 .left))
+    (λ c.
+    let read = c .before .before .before in
+    something-left _ _ _ _ (read .before .before .if1 .left) (refusal-told _ _ _ (sym (c .before .number .given .1) ∙ read .read .ensures .0)) refl))

@@ -2,10 +2,10 @@
 use mathlib.Core.Bool.{Bool, true, false, cond}
 use mathlib.Core.Path.{_≡_, refl, _∙_, sym, ap}
 use mathlib.Core.List.{List, [], _∷_, _++_}
-use Prim.Native.Nat.{ℕ, _+_}
+use Prim.Native.Nat.{ℕ, _+_, _≤_, _<_}
 use native.Mathlib.Omega.{arith}
 use lib.Dec.{eqb}
-use denote.Ref.{now}
+use lib.ListN.{length}
 use borrow.Author.Tests.{ne-eqb, eqb-true}
 use Rattle.wire.specs.Integers.{Bytes, bigEndian}
 use Rattle.wire.specs.Signed.{signed}
@@ -63,8 +63,62 @@ module _ (s old : List ℕ) (version : ℕ) where
       refl
       (rw (i, j, k, l, behind)))
 
+-- What is known behind the test of the chunk: the chunk, and that its header is there.
+abbrev content : tie.Else2 → List ℕ
+content c = c .before .before .before .before .before .args .s .now
+
+abbrev start : tie.Else2 → ℕ
+start c = c .before .before .before .chunk-place .result
+
+chunk : (c : tie.Else2) → OpenChunk (content c) (start c)
+chunk c = opened _ _ (c .before .is-open-chunk .result) (c .before .is-open-chunk .ensures) (c .if2 .left)
+
+header : (c : tie.Else2) → (start c + 48 ≤ length (content c)) × (start c + 48 < 0x1_0000_0000_0000_0000)
+header c = let h = chunk c .long in (h, omega (arith, h))
+
+known : (c : tie.Else2) → Bytes (content c)
+unfolding Bytes
+known c i = omega (arith, c .before .before .before .before .shared-slice-known .given i)
+
+-- That place, from behind the fourth, the eighth and the twelfth number; and the place of the first.
+abbrev from-4 : tie.After-number4 → tie.Else2
+from-4 c = c .before .before .before .before .before
+
+abbrev from-8 : tie.After-number8 → tie.Else2
+from-8 c = from-4 (c .before .before .before .before)
+
+abbrev from-12 : tie.After-number12 → tie.Else2
+from-12 c = from-8 (c .before .before .before .before .before)
+
+abbrev first-of : tie.After-number12 → tie.After-number
+first-of c = c .before .before .before .before .before .before .before .before .before .before .before .before .before
+
+abbrev header-of : (c : tie.After-number12) → (h : List ℕ) × (h ≡ flatHeader (headerAt (content (from-12 c)) (start (from-12 c))))
+header-of c =
+    let d = c .before .before .before in
+    let e = d .before .before in
+    let f = e .before .before .before .before in
+    let g = f .before .before in (
+      _,
+      header-slots _ (known (from-12 c)) _ (chunk (from-12 c)) _ _ _ _ _ _ _ _ _ _ _
+          (g .widened8 .ensures ∙ ap (λ (x : ℕ). bits (signed 1 x)) (g .before .number2 .ensures))
+          (f .before .number3 .ensures)
+          (f .number4 .ensures)
+          (e .before .before .before .number5 .ensures)
+          (e .before .before .number6 .ensures)
+          (e .before .number7 .ensures)
+          (d .before .widened32 .ensures ∙ ap (λ (x : ℕ). bits (signed 4 x)) (e .number8 .ensures))
+          (d .number9 .ensures)
+          (c .before .before .number10 .ensures)
+          (c .before .number11 .ensures)
+          (c .number12 .ensures),
+    )
+
+version-2 : (c : tie.Else2) → (c .before .before .before .before .before .args .version ≡ 1 → ⊥) → (c .before .before .before .before .before .args .version ≡ 2) × (start c ≡ 9)
+version-2 c = second _ _ (c .before .before .before .chunk-place .ensures) (c .before .before .if1 .left)
+
 pub deliver-spec : {M : Type 1} → statement M
-unfolding Bytes padded
+unfolding padded
 deliver-spec =
     tie.close
     (tie.spec
@@ -72,30 +126,39 @@ deliver-spec =
     (λ c. search needs)
     (λ c κs. search needs)
     (λ c. search needs)
-    (λ c κs. let o = opened (now (c .before .before .before .before .before .args .s)) (c .before .before .before .chunk-place .result) (c .before .is-open-chunk .result) (c .before .is-open-chunk .ensures) (c .if2 .left) in omega (arith, o .long))
-    (λ c κs. let o = opened (now (c .before .before .before .before .before .before .args .s)) (c .before .before .before .before .chunk-place .result) (c .before .before .is-open-chunk .result) (c .before .before .is-open-chunk .ensures) (c .before .if2 .left) in omega (arith, o .long))
-    (λ c κs. below 1 _ _ _ (λ i. omega (arith, c .before .before .before .before .before .before .shared-slice-known .given i)) (c .number2 .ensures))
-    (λ c. let o = opened (now (c .before .before .before .before .before .before .before .before .args .s)) (c .before .before .before .before .before .before .chunk-place .result) (c .before .before .before .before .is-open-chunk .result) (c .before .before .before .before .is-open-chunk .ensures) (c .before .before .before .if2 .left) in omega (arith, o .long))
-    (λ c κs. let o = opened (now (c .before .before .before .before .before .before .before .before .args .s)) (c .before .before .before .before .before .before .chunk-place .result) (c .before .before .before .before .is-open-chunk .result) (c .before .before .before .before .is-open-chunk .ensures) (c .before .before .before .if2 .left) in omega (arith, o .long))
-    (λ c. let o = opened (now (c .before .before .before .before .before .before .before .before .before .args .s)) (c .before .before .before .before .before .before .before .chunk-place .result) (c .before .before .before .before .before .is-open-chunk .result) (c .before .before .before .before .before .is-open-chunk .ensures) (c .before .before .before .before .if2 .left) in omega (arith, o .long))
-    (λ c κs. let o = opened (now (c .before .before .before .before .before .before .before .before .before .args .s)) (c .before .before .before .before .before .before .before .chunk-place .result) (c .before .before .before .before .before .is-open-chunk .result) (c .before .before .before .before .before .is-open-chunk .ensures) (c .before .before .before .before .if2 .left) in omega (arith, o .long))
-    (λ c. let o = opened (now (c .before .before .before .before .before .before .before .before .before .before .args .s)) (c .before .before .before .before .before .before .before .before .chunk-place .result) (c .before .before .before .before .before .before .is-open-chunk .result) (c .before .before .before .before .before .before .is-open-chunk .ensures) (c .before .before .before .before .before .if2 .left) in omega (arith, o .long))
-    (λ c κs. let o = opened (now (c .before .before .before .before .before .before .before .before .before .before .args .s)) (c .before .before .before .before .before .before .before .before .chunk-place .result) (c .before .before .before .before .before .before .is-open-chunk .result) (c .before .before .before .before .before .before .is-open-chunk .ensures) (c .before .before .before .before .before .if2 .left) in omega (arith, o .long))
-    (λ c. let o = opened (now (c .before .before .before .before .before .before .before .before .before .before .before .args .s)) (c .before .before .before .before .before .before .before .before .before .chunk-place .result) (c .before .before .before .before .before .before .before .is-open-chunk .result) (c .before .before .before .before .before .before .before .is-open-chunk .ensures) (c .before .before .before .before .before .before .if2 .left) in omega (arith, o .long))
-    (λ c κs. let o = opened (now (c .before .before .before .before .before .before .before .before .before .before .before .args .s)) (c .before .before .before .before .before .before .before .before .before .chunk-place .result) (c .before .before .before .before .before .before .before .is-open-chunk .result) (c .before .before .before .before .before .before .before .is-open-chunk .ensures) (c .before .before .before .before .before .before .if2 .left) in omega (arith, o .long))
-    (λ c. let o = opened (now (c .before .before .before .before .before .before .before .before .before .before .before .before .args .s)) (c .before .before .before .before .before .before .before .before .before .before .chunk-place .result) (c .before .before .before .before .before .before .before .before .is-open-chunk .result) (c .before .before .before .before .before .before .before .before .is-open-chunk .ensures) (c .before .before .before .before .before .before .before .if2 .left) in omega (arith, o .long))
-    (λ c κs. let o = opened (now (c .before .before .before .before .before .before .before .before .before .before .before .before .args .s)) (c .before .before .before .before .before .before .before .before .before .before .chunk-place .result) (c .before .before .before .before .before .before .before .before .is-open-chunk .result) (c .before .before .before .before .before .before .before .before .is-open-chunk .ensures) (c .before .before .before .before .before .before .before .if2 .left) in omega (arith, o .long))
-    (λ c. let o = opened (now (c .before .before .before .before .before .before .before .before .before .before .before .before .before .args .s)) (c .before .before .before .before .before .before .before .before .before .before .before .chunk-place .result) (c .before .before .before .before .before .before .before .before .before .is-open-chunk .result) (c .before .before .before .before .before .before .before .before .before .is-open-chunk .ensures) (c .before .before .before .before .before .before .before .before .if2 .left) in omega (arith, o .long))
-    (λ c κs. let o = opened (now (c .before .before .before .before .before .before .before .before .before .before .before .before .before .args .s)) (c .before .before .before .before .before .before .before .before .before .before .before .chunk-place .result) (c .before .before .before .before .before .before .before .before .before .is-open-chunk .result) (c .before .before .before .before .before .before .before .before .before .is-open-chunk .ensures) (c .before .before .before .before .before .before .before .before .if2 .left) in omega (arith, o .long))
-    (λ c κs. below 4 _ _ _ (λ i. omega (arith, c .before .before .before .before .before .before .before .before .before .before .before .before .before .shared-slice-known .given i)) (c .number5 .ensures))
-    (λ c. let o = opened (now (c .before .before .before .before .before .before .before .before .before .before .before .before .before .before .before .args .s)) (c .before .before .before .before .before .before .before .before .before .before .before .before .before .chunk-place .result) (c .before .before .before .before .before .before .before .before .before .before .before .is-open-chunk .result) (c .before .before .before .before .before .before .before .before .before .before .before .is-open-chunk .ensures) (c .before .before .before .before .before .before .before .before .before .before .if2 .left) in omega (arith, o .long))
-    (λ c κs. let o = opened (now (c .before .before .before .before .before .before .before .before .before .before .before .before .before .before .before .args .s)) (c .before .before .before .before .before .before .before .before .before .before .before .before .before .chunk-place .result) (c .before .before .before .before .before .before .before .before .before .before .before .is-open-chunk .result) (c .before .before .before .before .before .before .before .before .before .before .before .is-open-chunk .ensures) (c .before .before .before .before .before .before .before .before .before .before .if2 .left) in omega (arith, o .long))
-    (λ c. let o = opened (now (c .before .before .before .before .before .before .before .before .before .before .before .before .before .before .before .before .args .s)) (c .before .before .before .before .before .before .before .before .before .before .before .before .before .before .chunk-place .result) (c .before .before .before .before .before .before .before .before .before .before .before .before .is-open-chunk .result) (c .before .before .before .before .before .before .before .before .before .before .before .before .is-open-chunk .ensures) (c .before .before .before .before .before .before .before .before .before .before .before .if2 .left) in omega (arith, o .long))
-    (λ c κs. let o = opened (now (c .before .before .before .before .before .before .before .before .before .before .before .before .before .before .before .before .args .s)) (c .before .before .before .before .before .before .before .before .before .before .before .before .before .before .chunk-place .result) (c .before .before .before .before .before .before .before .before .before .before .before .before .is-open-chunk .result) (c .before .before .before .before .before .before .before .before .before .before .before .before .is-open-chunk .ensures) (c .before .before .before .before .before .before .before .before .before .before .before .if2 .left) in omega (arith, o .long))
-    (λ c. let o = opened (now (c .before .before .before .before .before .before .before .before .before .before .before .before .before .before .before .before .before .args .s)) (c .before .before .before .before .before .before .before .before .before .before .before .before .before .before .before .chunk-place .result) (c .before .before .before .before .before .before .before .before .before .before .before .before .before .is-open-chunk .result) (c .before .before .before .before .before .before .before .before .before .before .before .before .before .is-open-chunk .ensures) (c .before .before .before .before .before .before .before .before .before .before .before .before .if2 .left) in omega (arith, o .long))
-    (λ c κs. let o = opened (now (c .before .before .before .before .before .before .before .before .before .before .before .before .before .before .before .before .before .args .s)) (c .before .before .before .before .before .before .before .before .before .before .before .before .before .before .before .chunk-place .result) (c .before .before .before .before .before .before .before .before .before .before .before .before .before .is-open-chunk .result) (c .before .before .before .before .before .before .before .before .before .before .before .before .before .is-open-chunk .ensures) (c .before .before .before .before .before .before .before .before .before .before .before .before .if2 .left) in omega (arith, o .long))
-    (λ c. let o = opened (now (c .before .before .before .before .before .before .before .before .before .before .before .before .before .before .before .before .before .before .args .s)) (c .before .before .before .before .before .before .before .before .before .before .before .before .before .before .before .before .chunk-place .result) (c .before .before .before .before .before .before .before .before .before .before .before .before .before .before .is-open-chunk .result) (c .before .before .before .before .before .before .before .before .before .before .before .before .before .before .is-open-chunk .ensures) (c .before .before .before .before .before .before .before .before .before .before .before .before .before .if2 .left) in omega (arith, o .long))
-    (λ c κs. let o = opened (now (c .before .before .before .before .before .before .before .before .before .before .before .before .before .before .before .before .before .before .args .s)) (c .before .before .before .before .before .before .before .before .before .before .before .before .before .before .before .before .chunk-place .result) (c .before .before .before .before .before .before .before .before .before .before .before .before .before .before .is-open-chunk .result) (c .before .before .before .before .before .before .before .before .before .before .before .before .before .before .is-open-chunk .ensures) (c .before .before .before .before .before .before .before .before .before .before .before .before .before .if2 .left) in omega (arith, o .long))
-    (λ c. first-row (now (c .before .before .before .before .before .before .before .before .before .before .before .before .before .before .before .before .before .before .before .before .before .args .s)) (now (c .before .before .before .before .before .before .before .before .before .before .before .before .before .before .before .before .before .before .before .before .before .args .slots)) (c .before .before .before .before .before .before .before .before .before .before .before .before .before .before .before .before .before .before .before .before .before .args .version) _ _ _ _ (λ i. omega (arith, c .before .before .before .before .before .before .before .before .before .before .before .before .before .before .before .before .before .before .before .before .shared-slice-known .given i)) (c .before .if3 .taken) (c .before .before .before .before .before .before .before .before .before .before .before .before .before .before .before .before .before .before .before .chunk-place .ensures) (opened (now (c .before .before .before .before .before .before .before .before .before .before .before .before .before .before .before .before .before .before .before .before .before .args .s)) (c .before .before .before .before .before .before .before .before .before .before .before .before .before .before .before .before .before .before .before .chunk-place .result) (c .before .before .before .before .before .before .before .before .before .before .before .before .before .before .before .before .before .is-open-chunk .result) (c .before .before .before .before .before .before .before .before .before .before .before .before .before .before .before .before .before .is-open-chunk .ensures) (c .before .before .before .before .before .before .before .before .before .before .before .before .before .before .before .before .if2 .left)) (c .before .before .before .before .before .before .before .before .before .before .before .before .before .before .before .number .ensures) (c .before .before .before .before .before .number6 .ensures) (header-slots _ (λ i. omega (arith, c .before .before .before .before .before .before .before .before .before .before .before .before .before .before .before .before .before .before .before .before .shared-slice-known .given i)) _ (opened (now (c .before .before .before .before .before .before .before .before .before .before .before .before .before .before .before .before .before .before .before .before .before .args .s)) (c .before .before .before .before .before .before .before .before .before .before .before .before .before .before .before .before .before .before .before .chunk-place .result) (c .before .before .before .before .before .before .before .before .before .before .before .before .before .before .before .before .before .is-open-chunk .result) (c .before .before .before .before .before .before .before .before .before .before .before .before .before .before .before .before .before .is-open-chunk .ensures) (c .before .before .before .before .before .before .before .before .before .before .before .before .before .before .before .before .if2 .left)) _ _ _ _ _ _ _ _ _ _ _ (c .before .before .before .before .before .before .before .before .before .before .before .before .before .widened8 .ensures ∙ ap (λ (x : ℕ). bits (signed 1 x)) (c .before .before .before .before .before .before .before .before .before .before .before .before .before .before .number2 .ensures)) (c .before .before .before .before .before .before .before .before .before .before .before .before .number3 .ensures) (c .before .before .before .before .before .before .before .before .before .before .before .number4 .ensures) (c .before .before .before .before .before .before .before .before .before .before .eight .ensures) (c .before .before .before .before .before .before .before .before .before .eight2 .ensures) (c .before .before .before .before .before .before .before .before .eight3 .ensures) (c .before .before .before .before .before .before .widened32 .ensures ∙ ap (λ (x : ℕ). bits (signed 4 x)) (c .before .before .before .before .before .before .before .number5 .ensures)) (c .before .before .before .before .before .number6 .ensures) (c .before .before .before .before .number7 .ensures) (c .before .before .before .number8 .ensures) (c .before .before .number9 .ensures)))
-    (λ c κs. let o = opened (now (c .before .before .before .before .before .before .before .before .before .before .before .before .before .before .before .before .before .before .before .before .args .s)) (c .before .before .before .before .before .before .before .before .before .before .before .before .before .before .before .before .before .before .chunk-place .result) (c .before .before .before .before .before .before .before .before .before .before .before .before .before .before .before .before .is-open-chunk .result) (c .before .before .before .before .before .before .before .before .before .before .before .before .before .before .before .before .is-open-chunk .ensures) (c .before .before .before .before .before .before .before .before .before .before .before .before .before .before .before .if2 .left) in omega (arith, o .long, second _ _ (c .before .before .before .before .before .before .before .before .before .before .before .before .before .before .before .before .before .before .chunk-place .ensures) (c .before .before .before .before .before .before .before .before .before .before .before .before .before .before .before .before .before .if1 .left) (c .if3 .left) .1))
-    (λ c. second-row (now (c .before .before .before .before .before .before .before .before .before .before .before .before .before .before .before .before .before .before .before .before .before .before .args .s)) (now (c .before .before .before .before .before .before .before .before .before .before .before .before .before .before .before .before .before .before .before .before .before .before .args .slots)) (c .before .before .before .before .before .before .before .before .before .before .before .before .before .before .before .before .before .before .before .before .before .before .args .version) _ _ _ _ _ (λ i. omega (arith, c .before .before .before .before .before .before .before .before .before .before .before .before .before .before .before .before .before .before .before .before .before .shared-slice-known .given i)) (second _ _ (c .before .before .before .before .before .before .before .before .before .before .before .before .before .before .before .before .before .before .before .before .chunk-place .ensures) (c .before .before .before .before .before .before .before .before .before .before .before .before .before .before .before .before .before .before .before .if1 .left) (c .before .before .if3 .left)) (opened (now (c .before .before .before .before .before .before .before .before .before .before .before .before .before .before .before .before .before .before .before .before .before .before .args .s)) (c .before .before .before .before .before .before .before .before .before .before .before .before .before .before .before .before .before .before .before .before .chunk-place .result) (c .before .before .before .before .before .before .before .before .before .before .before .before .before .before .before .before .before .before .is-open-chunk .result) (c .before .before .before .before .before .before .before .before .before .before .before .before .before .before .before .before .before .before .is-open-chunk .ensures) (c .before .before .before .before .before .before .before .before .before .before .before .before .before .before .before .before .before .if2 .left)) (c .before .before .before .before .before .before .before .before .before .before .before .before .before .before .before .before .number .ensures) (c .before .eight4 .ensures) (c .before .before .before .before .before .before .number6 .ensures) (header-slots _ (λ i. omega (arith, c .before .before .before .before .before .before .before .before .before .before .before .before .before .before .before .before .before .before .before .before .before .shared-slice-known .given i)) _ (opened (now (c .before .before .before .before .before .before .before .before .before .before .before .before .before .before .before .before .before .before .before .before .before .before .args .s)) (c .before .before .before .before .before .before .before .before .before .before .before .before .before .before .before .before .before .before .before .before .chunk-place .result) (c .before .before .before .before .before .before .before .before .before .before .before .before .before .before .before .before .before .before .is-open-chunk .result) (c .before .before .before .before .before .before .before .before .before .before .before .before .before .before .before .before .before .before .is-open-chunk .ensures) (c .before .before .before .before .before .before .before .before .before .before .before .before .before .before .before .before .before .if2 .left)) _ _ _ _ _ _ _ _ _ _ _ (c .before .before .before .before .before .before .before .before .before .before .before .before .before .before .widened8 .ensures ∙ ap (λ (x : ℕ). bits (signed 1 x)) (c .before .before .before .before .before .before .before .before .before .before .before .before .before .before .before .number2 .ensures)) (c .before .before .before .before .before .before .before .before .before .before .before .before .before .number3 .ensures) (c .before .before .before .before .before .before .before .before .before .before .before .before .number4 .ensures) (c .before .before .before .before .before .before .before .before .before .before .before .eight .ensures) (c .before .before .before .before .before .before .before .before .before .before .eight2 .ensures) (c .before .before .before .before .before .before .before .before .before .eight3 .ensures) (c .before .before .before .before .before .before .before .widened32 .ensures ∙ ap (λ (x : ℕ). bits (signed 4 x)) (c .before .before .before .before .before .before .before .before .number5 .ensures)) (c .before .before .before .before .before .before .number6 .ensures) (c .before .before .before .before .before .number7 .ensures) (c .before .before .before .before .number8 .ensures) (c .before .before .before .number9 .ensures))))
+    (λ c κs. omega (arith, header c .0))
+    (λ c κs. omega (arith, header (c .before) .0))
+    (λ c κs. below 1 _ _ _ (known (c .before .before)) (c .number2 .ensures))
+    (λ c. omega (arith, header (c .before .before .before) .1))
+    (λ c κs. omega (arith, header (c .before .before .before) .0))
+    (λ c. omega (arith, header (c .before .before .before .before) .1))
+    (λ c κs. omega (arith, header (c .before .before .before .before) .0))
+    (λ c. omega (arith, header (from-4 c) .1))
+    (λ c κs. omega (arith, header (from-4 c) .0))
+    (λ c. omega (arith, header (from-4 (c .before)) .1))
+    (λ c κs. omega (arith, header (from-4 (c .before)) .0))
+    (λ c. omega (arith, header (from-4 (c .before .before)) .1))
+    (λ c κs. omega (arith, header (from-4 (c .before .before)) .0))
+    (λ c. omega (arith, header (from-4 (c .before .before .before)) .1))
+    (λ c κs. omega (arith, header (from-4 (c .before .before .before)) .0))
+    (λ c κs. below 4 _ _ _ (known (from-8 c)) (c .number8 .ensures))
+    (λ c. omega (arith, header (from-8 (c .before)) .1))
+    (λ c κs. omega (arith, header (from-8 (c .before)) .0))
+    (λ c. omega (arith, header (from-8 (c .before .before)) .1))
+    (λ c κs. omega (arith, header (from-8 (c .before .before)) .0))
+    (λ c. omega (arith, header (from-8 (c .before .before .before)) .1))
+    (λ c κs. omega (arith, header (from-8 (c .before .before .before)) .0))
+    (λ c. omega (arith, header (from-8 (c .before .before .before .before)) .1))
+    (λ c κs. omega (arith, header (from-8 (c .before .before .before .before)) .0))
+    (λ c.
+    let n = c .before .before in
+    let e = from-12 n in
+    let p = e .before .before .before in
+    let a = p .before .before .args in
+    first-row (a .s .now) (a .slots .now) (a .version) _ _ _ (header-of n .0) (known e) (c .before .if3 .taken) (p .chunk-place .ensures) (chunk e) (first-of n .number .ensures) (n .before .before .before .number9 .ensures) (header-of n .1))
+    (λ c κs. let e = from-12 (c .before) in omega (arith, header e .0, version-2 e (c .if3 .left) .1))
+    (λ c.
+    let n = c .before .before .before in
+    let e = from-12 n in
+    let a = e .before .before .before .before .before .args in
+    second-row (a .s .now) (a .slots .now) (a .version) _ _ _ _ (header-of n .0) (known e) (version-2 e (c .before .before .if3 .left)) (chunk e) (first-of n .number .ensures) (c .before .number13 .ensures) (n .before .before .before .number9 .ensures) (header-of n .1)))

@@ -6,7 +6,6 @@ use Prim.Native.Nat.{ℕ, _+_, _-_, _≤_}
 use native.Mathlib.Omega.{arith}
 use lib.Dec.{eqb}
 use lib.ListN.{length}
-use denote.Ref.{now}
 use borrow.Author.Tests.{eqb-true}
 use Rattle.wire.specs.Integers.{bigEndian}
 use Rattle.rules.specs.Outcome.{repeated}
@@ -47,4 +46,8 @@ is-open-chunk-spec =
     (λ c κs. search needs)
     (λ c. search needs)
     (λ c κs. search needs)
-    (λ c. checked (now (c .before .before .before .before .before .before .before .before .before .before .before .args .s)) (c .before .before .before .before .before .before .before .before .before .before .before .args .at) _ _ _ _ _ (c .before .before .before .before .before .before .before .before .before .if1 .left) (c .before .before .before .before .before .before .before .before .if2 .left) (c .before .before .before .before .before .before .before .number .ensures) (c .before .before .before .before .before .before .if3 .left) (c .before .before .before .before .before .number2 .ensures) (c .before .before .before .before .number3 .ensures) (c .before .before .before .if4 .left) (c .before .before .number4 .ensures) (c .before .if5 .left) (c .entries-end .ensures)))
+    (λ c.
+    let p = c .before .before .before .before in
+    let q = p .before .before .before .before in
+    let a = q .before .before .before .args in
+    checked (a .s .now) (a .at) _ _ _ _ _ (q .before .if1 .left) (q .if2 .left) (p .before .before .before .number .ensures) (p .before .before .if3 .left) (p .before .number2 .ensures) (p .number3 .ensures) (c .before .before .before .if4 .left) (c .before .before .number4 .ensures) (c .before .if5 .left) (c .entries-end .ensures)))

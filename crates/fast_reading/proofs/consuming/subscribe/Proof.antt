@@ -5,7 +5,6 @@ use mathlib.Core.List.{List, [], _∷_}
 use Prim.Native.Nat.{ℕ, _+_, _-_, _≤_}
 use native.Mathlib.Omega.{arith}
 use lib.ListN.{length}
-use denote.Ref.{now}
 use Rattle.wire.specs.Integers.{Bytes, bigEndian}
 use Rattle.protocol.specs.Table.{table, rowIn}
 use Rattle.rules.specs.Reading.{readLayout, readRow}
@@ -58,7 +57,7 @@ subscribe-spec =
     (λ c. search needs)
     (λ c κs. search needs)
     (λ c. search needs)
-    (λ c. let t = text-at _ 5 _ (c .before .before .before .before .before .before .before .before .before .before .text-end .ensures) (c .before .before .before .before .before .before .before .before .before .if2 .left) in omega (arith, t .behind))
+    (λ c. let p = c .before .before .before .before .before .before .before .before .before in let t = text-at _ 5 _ (p .before .text-end .ensures) (p .if2 .left) in omega (arith, t .behind))
     (λ c. search needs)
     (λ c κs. search needs)
     (λ c. search needs)
@@ -66,4 +65,9 @@ subscribe-spec =
     (λ c. search needs)
     (λ c. search needs)
     (λ c. search needs)
-    (λ c. rw (c .first-eight .ensures) (row (now (c .before .before .before .before .before .before .before .before .before .before .before .before .before .before .before .before .args .s)) (now (c .before .before .before .before .before .before .before .before .before .before .before .before .before .before .before .before .args .slots)) _ _ _ _ _ _ _ _ (λ i. omega (arith, c .before .before .before .before .before .before .before .before .before .before .before .before .before .before .before .shared-slice-known .given i)) (c .before .before .before .before .before .before .before .before .before .before .before .before .before .before .if1 .left) (c .before .before .before .before .before .before .before .before .before .before .before .before .before .number .ensures) (c .before .before .before .before .before .before .before .before .before .before .before .before .number2 .ensures) (text-at _ 5 _ (c .before .before .before .before .before .before .before .before .before .before .before .text-end .ensures) (c .before .before .before .before .before .before .before .before .before .before .if2 .left)) (c .before .before .before .before .before .before .before .before .before .if3 .left) (c .before .before .before .before .before .before .before .before .number3 .ensures) (c .before .before .before .before .before .before .before .if4 .left) (c .before .before .before .before .before .before .eight .ensures) (c .before .before .before .before .before .number4 .ensures) (c .before .before .before .before .number5 .ensures) (c .before .before .before .if5 .left) (c .before .before .properties-end .ensures) (c .before .if6 .left))))
+    (λ c.
+    let p = c .before .before .before .before in
+    let q = p .before .before .before .before in
+    let r = q .before .before .before .before in
+    let a = r .before .before .before .before .args in
+    rw (c .first-eight .ensures) (row (a .s .now) (a .slots .now) _ _ _ _ _ _ _ _ (λ i. omega (arith, r .before .before .before .shared-slice-known .given i)) (r .before .before .if1 .left) (r .before .number .ensures) (r .number2 .ensures) (text-at _ 5 _ (q .before .before .before .text-end .ensures) (q .before .before .if2 .left)) (q .before .if3 .left) (q .number3 .ensures) (p .before .before .before .if4 .left) (p .before .before .number4 .ensures) (p .before .number5 .ensures) (p .number6 .ensures) (c .before .before .before .if5 .left) (c .before .before .properties-end .ensures) (c .before .if6 .left))))

@@ -6,7 +6,6 @@ use Prim.Native.Nat.{ℕ, _+_, _-_, _≤_}
 use native.Mathlib.Omega.{arith}
 use lib.Dec.{eqb}
 use lib.ListN.{length}
-use denote.Ref.{now}
 use Rattle.wire.specs.Integers.{Bytes, bigEndian}
 use Rattle.protocol.specs.Table.{table, rowIn}
 use Rattle.rules.specs.Reading.{readLayout}
@@ -50,4 +49,8 @@ declare-publisher-spec =
     (λ c. let t = text-at _ _ _ (c .before .text-end2 .ensures) (λ z. omega arith) in omega (arith, t .behind))
     (λ c. search needs)
     (λ c κs. search needs)
-    (λ c. rw (c .first-eight .ensures) (row (now (c .before .before .before .before .before .before .before .before .before .before .args .s)) (now (c .before .before .before .before .before .before .before .before .before .before .args .slots)) _ _ _ _ (λ i. omega (arith, c .before .before .before .before .before .before .before .before .before .shared-slice-known .given i)) (c .before .before .before .before .before .before .before .before .if1 .left) (c .before .before .before .before .before .before .before .number .ensures) (c .before .before .before .before .before .before .number2 .ensures) (text-at _ 5 _ (c .before .before .before .before .before .text-end .ensures) (c .before .before .before .before .if2 .left)) (c .before .before .before .if3 .left) (text-at _ _ _ (c .before .before .text-end2 .ensures) (λ z. omega arith)) (c .before .if4 .left))))
+    (λ c.
+    let p = c .before .before .before .before in
+    let q = p .before .before .before .before in
+    let a = q .before .before .args in
+    rw (c .first-eight .ensures) (row (a .s .now) (a .slots .now) _ _ _ _ (λ i. omega (arith, q .before .shared-slice-known .given i)) (q .if1 .left) (p .before .before .before .number .ensures) (p .before .before .number2 .ensures) (text-at _ 5 _ (p .before .text-end .ensures) (p .if2 .left)) (c .before .before .before .if3 .left) (text-at _ _ _ (c .before .before .text-end2 .ensures) (λ z. omega arith)) (c .before .if4 .left))))

@@ -1,5 +1,4 @@
 -- Each key's row is read under its own key and version.
-use denote.Ref.{now}
 use mathlib.Core.Bool.{Bool}
 use mathlib.Core.Path.{_≡_, refl}
 use mathlib.Core.List.{List}
@@ -49,7 +48,9 @@ content-spec =
     tie.close
     (tie.spec
     (λ c κs. search needs)
-    (λ c. by-eight (now (c .before .before .before .before .args .s)) (now (c .before .before .before .before .args .slots)) (c .deliver .last .1 .1 .0) (c .deliver .result) (c .before .before .before .before .args .key) (c .before .before .before .before .args .version) (c .before .before .if1 .taken) (c .deliver .ensures))
+    (λ c.
+    let a = c .before .before .before .before .args in
+    by-eight (a .s .now) (a .slots .now) (c .deliver .last .1 .1 .0) (c .deliver .result) (a .key) (a .version) (c .before .before .if1 .taken) (c .deliver .ensures))
     (λ c. search needs)
     (λ c κs. search needs)
     (λ c κs. search needs)
@@ -58,11 +59,25 @@ content-spec =
     (λ c κs. search needs)
     (λ c κs. search needs)
     (λ c κs. search needs)
-    (λ c. by-key (now (c .before .before .before .before .before .before .args .s)) (now (c .before .before .before .before .before .before .args .slots)) (c .declare-publisher .last .1 .0) (c .declare-publisher .result) (c .before .before .before .before .before .before .args .key) (c .before .before .before .before .before .before .args .version) 0x0001 1 declare-publisher-listed (c .before .before .match .keys1) (c .before .before .before .if2 .left) (c .declare-publisher .ensures))
-    (λ c. by-key (now (c .before .before .before .before .before .before .args .s)) (now (c .before .before .before .before .before .before .args .slots)) (c .publish .last .1 .0) (c .publish .result) (c .before .before .before .before .before .before .args .key) (c .before .before .before .before .before .before .args .version) 0x0002 1 publish-listed (c .before .before .match .keys2) (c .before .before .before .if2 .left) (c .publish .ensures))
-    (λ c. by-key (now (c .before .before .before .before .before .before .args .s)) (now (c .before .before .before .before .before .before .args .slots)) (c .publish-confirm .last .1 .0) (c .publish-confirm .result) (c .before .before .before .before .before .before .args .key) (c .before .before .before .before .before .before .args .version) 0x0003 1 publish-confirm-listed (c .before .before .match .keys3) (c .before .before .before .if2 .left) (c .publish-confirm .ensures))
-    (λ c. by-key (now (c .before .before .before .before .before .before .args .s)) (now (c .before .before .before .before .before .before .args .slots)) (c .subscribe .last .1 .0) (c .subscribe .result) (c .before .before .before .before .before .before .args .key) (c .before .before .before .before .before .before .args .version) 0x0007 1 subscribe-listed (c .before .before .match .keys4) (c .before .before .before .if2 .left) (c .subscribe .ensures))
-    (λ c. by-key (now (c .before .before .before .before .before .before .args .s)) (now (c .before .before .before .before .before .before .args .slots)) (c .credit .last .1 .0) (c .credit .result) (c .before .before .before .before .before .before .args .key) (c .before .before .before .before .before .before .args .version) 0x0009 1 credit-listed (c .before .before .match .keys5) (c .before .before .before .if2 .left) (c .credit .ensures))
-    (λ c. by-key (now (c .before .before .before .before .before .before .args .s)) (now (c .before .before .before .before .before .before .args .slots)) (c .«open» .last .1 .0) (c .«open» .result) (c .before .before .before .before .before .before .args .key) (c .before .before .before .before .before .before .args .version) 0x0015 1 open-listed (c .before .before .match .keys6) (c .before .before .before .if2 .left) (c .«open» .ensures))
-    (λ c. by-key (now (c .before .before .before .before .before .before .args .s)) (now (c .before .before .before .before .before .before .args .slots)) (c .heartbeat .last .1 .0) (c .heartbeat .result) (c .before .before .before .before .before .before .args .key) (c .before .before .before .before .before .before .args .version) 0x0017 1 heartbeat-listed (c .before .before .match .keys7) (c .before .before .before .if2 .left) (c .heartbeat .ensures))
+    (λ c.
+    let a = c .before .before .before .before .before .before .args in
+    by-key (a .s .now) (a .slots .now) (c .declare-publisher .last .1 .0) (c .declare-publisher .result) (a .key) (a .version) 0x0001 1 declare-publisher-listed (c .before .before .match .keys1) (c .before .before .before .if2 .left) (c .declare-publisher .ensures))
+    (λ c.
+    let a = c .before .before .before .before .before .before .args in
+    by-key (a .s .now) (a .slots .now) (c .publish .last .1 .0) (c .publish .result) (a .key) (a .version) 0x0002 1 publish-listed (c .before .before .match .keys2) (c .before .before .before .if2 .left) (c .publish .ensures))
+    (λ c.
+    let a = c .before .before .before .before .before .before .args in
+    by-key (a .s .now) (a .slots .now) (c .publish-confirm .last .1 .0) (c .publish-confirm .result) (a .key) (a .version) 0x0003 1 publish-confirm-listed (c .before .before .match .keys3) (c .before .before .before .if2 .left) (c .publish-confirm .ensures))
+    (λ c.
+    let a = c .before .before .before .before .before .before .args in
+    by-key (a .s .now) (a .slots .now) (c .subscribe .last .1 .0) (c .subscribe .result) (a .key) (a .version) 0x0007 1 subscribe-listed (c .before .before .match .keys4) (c .before .before .before .if2 .left) (c .subscribe .ensures))
+    (λ c.
+    let a = c .before .before .before .before .before .before .args in
+    by-key (a .s .now) (a .slots .now) (c .credit .last .1 .0) (c .credit .result) (a .key) (a .version) 0x0009 1 credit-listed (c .before .before .match .keys5) (c .before .before .before .if2 .left) (c .credit .ensures))
+    (λ c.
+    let a = c .before .before .before .before .before .before .args in
+    by-key (a .s .now) (a .slots .now) (c .«open» .last .1 .0) (c .«open» .result) (a .key) (a .version) 0x0015 1 open-listed (c .before .before .match .keys6) (c .before .before .before .if2 .left) (c .«open» .ensures))
+    (λ c.
+    let a = c .before .before .before .before .before .before .args in
+    by-key (a .s .now) (a .slots .now) (c .heartbeat .last .1 .0) (c .heartbeat .result) (a .key) (a .version) 0x0017 1 heartbeat-listed (c .before .before .match .keys7) (c .before .before .before .if2 .left) (c .heartbeat .ensures))
     (λ c. search needs))

@@ -1,7 +1,6 @@
 -- The checks of the first eight bytes, each of which the code makes too.
 use mathlib.Core.Logic.{⊎-elim}
 use native.Mathlib.Omega.{arith}
-use denote.Ref.{now}
 use Rattle.wire.specs.Integers.{Bytes}
 use Rattle.fast_reading.proofs.Heads.{framed, no-limit, in-limit}
 use Rattle.fast_reading.proofs.Rows.{below}
@@ -26,4 +25,8 @@ read-spec =
     (λ c. search needs)
     (λ c. search needs)
     (λ c κs. search needs)
-    (λ c. framed (now (c .before .before .before .before .before .before .before .before .before .before .before .args .bytes)) (now (c .before .before .before .before .before .before .before .before .before .before .before .args .slots)) (c .content .last .1 .1 .1 .0) (c .content .result) (c .before .before .before .before .number2 .result) (c .before .before .before .number3 .result) (c .before .before .before .before .before .before .before .before .before .before .before .args .limit) (c .before .before .before .before .before .before .before .before .number .result) (c .before .before .before .before .before .before .before .before .number .ensures) (c .before .before .before .before .number2 .ensures) (c .before .before .before .number3 .ensures) (c .before .before .before .before .before .before .before .before .before .if1 .left) (⊎-elim (λ w. in-limit (now (c .before .before .before .before .before .before .before .before .before .before .before .args .bytes)) (c .before .before .before .before .before .before .before .before .before .before .before .args .limit) (c .before .before .before .before .before .before .before .before .number .result) (w .0 .taken) (w .1 .left)) (λ w. no-limit (now (c .before .before .before .before .before .before .before .before .before .before .before .args .bytes)) (c .before .before .before .before .before .before .before .before .before .before .before .args .limit) (c .before .before .before .before .before .before .before .before .number .result) (w .left)) (c .before .before .before .before .before .before .before .if2 .came)) (c .before .before .before .before .before .before .if4 .left) (c .before .before .before .before .before .if5 .left) (c .content .ensures)))
+    (λ c.
+    let p = c .before .before .before .before in
+    let q = p .before .before .before .before in
+    let a = q .before .before .before .args in
+    framed (a .bytes .now) (a .slots .now) (c .content .last .1 .1 .1 .0) (c .content .result) (p .number2 .result) (c .before .before .before .number3 .result) (a .limit) (q .number .result) (q .number .ensures) (p .number2 .ensures) (c .before .before .before .number3 .ensures) (q .before .if1 .left) (⊎-elim (λ w. in-limit (a .bytes .now) (a .limit) (q .number .result) (w .0 .taken) (w .1 .left)) (λ w. no-limit (a .bytes .now) (a .limit) (q .number .result) (w .left)) (p .before .before .before .if2 .came)) (p .before .before .if4 .left) (p .before .if5 .left) (c .content .ensures)))

@@ -1,21 +1,34 @@
--- By whether four bytes are there.
-use Rattle.frame_reading.proofs.Sizes.{size-there, size-cut}
-use Rattle.wire.proofs.Widths.{integers, is-there, is-cut}
-use Rattle.wire.specs.Integers.{Bytes}
-use mathlib.Core.Path.{_∙_, sym}
-use native.Mathlib.Omega.{arith}
+-- What the fast reader has read is read; what it leaves, the other reads into the same slots.
+use mathlib.Core.Path.{_≡_, refl, _∙_, ap}
+use mathlib.Core.Bool.{Bool, true, false, true≢false, false≢true}
+use mathlib.Core.List.{List}
+use Prim.Native.Nat.{ℕ}
 use borrow.Author.Needs.{needs}
+use Rattle.rules.specs.Reading.{Reading, frame, short, refusal}
+use Rattle.fast_reading.specs.Answer.{ReadsAs}
+use Rattle.frame_reading.specs.declared.reading.FrameRead.{FrameRead}
+use Rattle.frame_reading.specs.declared.reading.FrameRead.the-variants.{Frame}
+use Rattle.frame_reading.proofs.Contents.{Answers}
 use Rattle.frame_reading.proofs.reading.read.Statement.{statement}
 use Rattle.frame_reading.proofs.reading.read.Tie as tie
 
+has-read : (reading : Reading) (old : List ℕ) (t : Bool) (new : List ℕ) → ReadsAs reading old t new → t ≡ true → Answers reading old Frame new
+has-read (frame f) old true new h e = (refl, h)
+has-read (short needed) old true new h e = absurd h
+has-read (refusal n place) old true new h e = absurd h
+has-read reading old false new h e = absurd (false≢true e)
+
+has-left : (reading : Reading) (old : List ℕ) (t : Bool) (new : List ℕ) (r : FrameRead) (last : List ℕ) → ReadsAs reading old t new → t ≡ false → Answers reading new r last → Answers reading old r last
+has-left (frame f) old false new r last h e a = a
+has-left (short needed) old false new r last h e a = (a .0, a .1 ∙ h)
+has-left (refusal n place) old false new r last h e a = (a .0, a .1 ∙ h)
+has-left reading old true new r last h e a = absurd (true≢false e)
+
 pub read-spec : {M : Type 1} → statement M
-unfolding Bytes
 read-spec =
     tie.close
     (tie.spec
-    (λ c κs. tt)
-    (λ c. search needs)
-    (λ c κs. let n = c .before .before .before in rw (is-there _ _ _ _ (sym (c .before .size .given .1) ∙ n .number-at .ensures) .1) (integers 4 .range _ 0 (λ i. omega (arith, n .before .shared-slice-known .given i))))
-    (λ c. search needs)
-    (λ c. size-there _ _ _ _ (is-there _ _ _ _ (sym (c .before .before .size .given .1) ∙ c .before .before .before .before .number-at .ensures)) (c .sized .ensures))
-    (λ c. size-cut _ _ (is-cut _ _ _ (sym (c .enum-told .given .1) ∙ c .before .before .number-at .ensures))))
+    (λ c κs. search needs)
+    (λ c. has-read _ _ _ _ (c .before .read .ensures) (c .if1 .taken))
+    (λ c κs. search needs)
+    (λ c. has-left _ _ _ _ _ _ (c .before .before .before .read .ensures) (c .before .before .if1 .left) (c .read-any .ensures)))

@@ -1,10 +1,7 @@
--- Writing the slots of a typed frame is writing it.
-use mathlib.Core.Path.{_∙_, ap}
-use mathlib.Core.List.{List}
-use Prim.Native.Nat.{ℕ}
-use Rattle.flat.proofs.Inverse.{flat-writes}
-use Rattle.flat.specs.Unflat.{writeFlat}
+-- The fast writer's answer is that of writing; where it leaves the output alone, the writer of any layout answers.
+use mathlib.Core.Path.{_∙_}
 use borrow.Author.Needs.{needs}
+use Rattle.frame_writing.proofs.Fast.{fast-written, fast-left, as-written}
 use Rattle.frame_writing.proofs.writing.write.Statement.{statement}
 use Rattle.frame_writing.proofs.writing.write.Tie as tie
 
@@ -14,11 +11,14 @@ write-spec =
     (tie.spec
     (λ c κs. search needs)
     (λ c. search needs)
+    (λ c. search needs)
     (λ c κs. search needs)
     (λ c. search needs)
+    (λ c. fast-written _ _ _ _ (c .before .before .before .before .before .write .ensures) _ (c .before .length .given .1))
+    (λ c. search needs)
     (λ c.
-    let flat = c .before .before .before .before .before in
-    let start = flat .before .before .before in
-    c .before .before .write-slots .ensures
-    ∙ ap (λ (s : List ℕ). writeFlat s (start .args .src .now) (start .args .limit) (start .args .out .now)) (flat .frame-slots .ensures .0)
-    ∙ flat-writes (start .args .frame) (flat .frame-slots .ensures .1) _ _ _))
+    let any = c .before .before in
+    let told = any .before .before .before in
+    let fast = told .before .before .before .before in
+    let a = fast .before .before .before .before .args in
+    as-written (a .slots .now) (a .src .now) (a .limit) _ _ _ (fast-left _ _ _ _ (fast .write .ensures) (told .enum-told .given .1)) (any .write-any .ensures)))

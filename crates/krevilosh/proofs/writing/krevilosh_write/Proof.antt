@@ -1,8 +1,8 @@
--- The fast writer's answer is that of writing; where it leaves the output alone, the writer of any layout answers.
+-- What writing answers, by the case. A frame's length is bounded.
 use mathlib.Core.Path.{refl}
-use denote.Ref.{now}
-use Rattle.krevilosh.proofs.Lengths.{fast-told, fast-below, unwritten, as-written}
 use borrow.Author.Needs.{needs}
+use denote.Ref.{now}
+use Rattle.krevilosh.proofs.Lengths.{length-told, refusal-told, length-below}
 use Rattle.krevilosh.proofs.writing.krevilosh_write.Statement.{statement}
 use Rattle.krevilosh.proofs.writing.krevilosh_write.Tie as tie
 
@@ -12,10 +12,17 @@ krevilosh-write-spec =
     (tie.spec
     (λ c κs. search needs)
     (λ c. search needs)
-    (λ c κs. let a = c .before .before .before .before .before .before .before .before .before .args in fast-below _ _ _ _ (c .before .before .before .before .before .write .ensures) _ (now (a .frame)) (now (a .source)) (a .limit) (now (a .out)) (c .before .length .given .1) refl)
+    (λ c κs.
+    let write = c .before .before .before .before .before in
+    let a = write .before .before .before .before .args in
+    length-below _ _ _ (write .write .ensures) _ (now (a .frame)) (now (a .source)) (a .limit) (now (a .out)) (c .before .length .given .1) refl)
     (λ c. search needs)
-    (λ c κs. search needs)
     (λ c. search needs)
-    (λ c. fast-told _ _ _ _ (c .before .before .before .before .before .before .write .ensures) _ _ (c .before .before .length .given .1) (c .packed .ensures))
     (λ c. search needs)
-    (λ c. let a = c .before .before .before .before .before .before .before .before .before .before .before .before .args in as-written (now (a .frame)) (now (a .source)) (a .limit) _ _ _ _ (unwritten _ _ _ _ (c .before .before .before .before .before .before .before .before .write .ensures) (c .before .before .before .before .enum-told .given .1)) (c .before .before .write-any .ensures)))
+    (λ c.
+    let told = c .before .before in
+    length-told _ _ _ (told .before .before .before .before .write .ensures) _ _ (told .length .given .1) (c .packed .ensures))
+    (λ c. search needs)
+    (λ c.
+    let told = c .before in
+    refusal-told _ _ _ (told .before .before .before .before .write .ensures) _ (told .number .given .1)))

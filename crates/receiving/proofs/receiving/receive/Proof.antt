@@ -1,13 +1,10 @@
--- Each way out by what reading gives, what the frame is, and what the ledger answers.
-use mathlib.Core.Path.{_≡_, sym, ap, _∙_}
-use mathlib.Core.Option.{none, some}
+-- Each way out by whether the ledger has a credit for the frame, and what reading gives.
+use mathlib.Core.Path.{_∙_, sym, ap}
 use borrow.Author.Needs.{needs}
 use denote.Ref.{now}
-use Rattle.protocol.specs.Frames.{fieldsOf}
-use Rattle.layouts.specs.Answer.{answerOf}
 use Rattle.ledger.specs.Answers.{numberOf}
 use Rattle.receiving.specs.Subscription.{idOf}
-use Rattle.receiving.proofs.Answers.{no-frame, no-deliver, deliver}
+use Rattle.receiving.proofs.Answers.{no-frame, not-read, handed, refused, afforded}
 use Rattle.receiving.proofs.receiving.receive.Statement.{statement}
 use Rattle.receiving.proofs.receiving.receive.Tie as tie
 
@@ -16,36 +13,32 @@ receive-spec =
     tie.close
     (tie.spec
     (λ c κs. search needs)
-    (λ c. search needs)
-    (λ c. let r = c .before in
-    let a = r .before .before .args in
-    no-frame (now (a .credits)) (now (a .bytes)) (a .limit) (r .read .result) (r .read .ensures) (c .match .keys2))
+    (λ c κs. search needs)
     (λ c κs. search needs)
     (λ c. search needs)
-    (λ c. search needs)
-    (λ c. let d = c .before .before in
-    let f = d .before .before in
-    let r = f .before .before in
-    let a = r .before .before .args in
-    no-deliver (now (a .credits)) (now (a .bytes)) (a .limit) (fieldsOf (f .reading .given .0 .0)) (sym (ap answerOf (f .reading .given .1)) ∙ r .read .ensures) (sym (ap idOf (c .enum-told .given .1)) ∙ d .delivered-to .ensures))
+    (λ c κs. search needs)
+    (λ c.
+    let told = c .before .before in
+    let read = told .before .before in
+    let credit = read .before .before in
+    handed _ _ _ _ _ (told .enum-told .given .1) (read .read .ensures .0) _ _ (read .read .ensures .1)
+    _ _ (credit .before .before .before .subscription-of .ensures) (c .spend .ensures .1) (sym (credit .before .affords .ensures) ∙ credit .if1 .taken))
+    (λ c. not-read _ _ _ _ _ _ (c .before .read .ensures .0) (c .before .read .ensures .1) (c .match .keys2))
     (λ c κs. search needs)
     (λ c. search needs)
+    (λ c κs. search needs)
     (λ c. search needs)
-    (λ c. let t = c .before .before in
-    let i = t .before .before .before in
-    let d = i .before .before in
-    let f = d .before .before in
-    let r = f .before .before in
-    let a = r .before .before .args in
-    deliver (now (a .credits)) (now (a .bytes)) (a .limit) (fieldsOf (f .reading .given .0 .0)) (i .id .given .0 .0) none (t .take .last .0)
-    (sym (ap answerOf (f .reading .given .1)) ∙ r .read .ensures) (sym (ap idOf (i .id .given .1)) ∙ d .delivered-to .ensures)
-    (sym (ap numberOf (c .enum-told2 .given .1)) ∙ t .take .ensures .0) (t .take .ensures .1))
-    (λ c. let t = c .before .before .before in
-    let i = t .before .before .before in
-    let d = i .before .before in
-    let f = d .before .before in
-    let r = f .before .before in
-    let a = r .before .before .args in
-    deliver (now (a .credits)) (now (a .bytes)) (a .limit) (fieldsOf (f .reading .given .0 .0)) (i .id .given .0 .0) (some (c .before .spent .given .0 .0)) (t .take .last .0)
-    (sym (ap answerOf (f .reading .given .1)) ∙ r .read .ensures) (sym (ap idOf (i .id .given .1)) ∙ d .delivered-to .ensures)
-    (sym (ap numberOf (c .before .spent .given .1)) ∙ t .take .ensures .0) (t .take .ensures .1)))
+    (λ c.
+    let spend = c .before .before .before in
+    let told = spend .before .before in
+    let read = told .before .before in
+    let subscription = read .before .before .before .before .before in
+    refused _ _ _ _ _ (told .enum-told2 .given .1) (read .read2 .ensures .0) _ _ (read .read2 .ensures .1)
+    _ _ (subscription .subscription-of .ensures) (spend .spend2 .ensures .1) _ (sym (ap numberOf (c .before .number .given .1)) ∙ spend .spend2 .ensures .0))
+    (λ c. search needs)
+    (λ c.
+    let spend = c .before .before in
+    let credit = spend .before .before .before .before .before .before in
+    let subscription = credit .before .before .before in
+    absurd (afforded (now (subscription .before .before .args .credits)) (idOf (subscription .subscription-of .result)) _ (credit .before .affords .ensures) (credit .if1 .left) (sym (ap numberOf (c .enum-told3 .given .1)) ∙ spend .spend2 .ensures .0)))
+    (λ c. no-frame _ _ _ _ _ (c .before .read2 .ensures .0) (c .match2 .keys2)))

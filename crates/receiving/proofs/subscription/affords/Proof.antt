@@ -5,7 +5,7 @@ use denote.Ref.{now}
 use lib.ListN.{getD}
 use Rattle.receiving.specs.Subscription.{idOf, affords}
 use Rattle.receiving.specs.declared.subscription.Subscription.{Subscription}
-use Rattle.receiving.proofs.Addressed.{enough}
+use Rattle.receiving.proofs.Answers.{enough}
 use Rattle.receiving.proofs.subscription.affords.Statement.{statement}
 use Rattle.receiving.proofs.subscription.affords.Tie as tie
 

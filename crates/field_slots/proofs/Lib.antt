@@ -1,0 +1,7 @@
+-- Lemmas that belong to no one function.
+mod FlatFields
+mod Fitting
+mod Narrowing
+mod Into
+pub mod Walk
+mod Rows

@@ -1,0 +1,7 @@
+// Fields between the wire and their slots: each kind of field read into slots, and written from them.
+mod chunk;
+mod reading;
+mod writing;
+
+pub use reading::read_fields;
+pub use writing::write_fields;

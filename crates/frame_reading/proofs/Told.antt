@@ -1,0 +1,30 @@
+-- Each answer of reading into slots is told of one kind of reading only. Assumes nothing.
+use mathlib.Core.Path.{_≡_, refl}
+use mathlib.Core.List.{List}
+use Prim.Native.Nat.{ℕ}
+use native.Mathlib.Omega.{arith}
+use Rattle.protocol.specs.Fields.{Fields}
+use Rattle.protocol.specs.declared.place.Place.{Place}
+use Rattle.rules.specs.Reading.{Reading, frame, short, refusal}
+use Rattle.flat.specs.Flat.{flatFrame}
+use Rattle.frame_reading.specs.Answer.{told, slotsAfter}
+use Rattle.frame_reading.specs.declared.reading.FrameRead.the-variants.{Frame, Short, Refused}
+
+pub short-told : (r : Reading) (n : ℕ) → Short n ≡ told r → short n ≡ r
+short-told (frame f) n e = absurd (let o : _≡_ {A = ℕ} 0 1 = cc in omega arith)
+short-told (short m) n e = cc
+short-told (refusal m p) n e = absurd (let o : _≡_ {A = ℕ} 0 1 = cc in omega arith)
+
+pub refusal-told : (r : Reading) (n p : ℕ) → Refused n p ≡ told r → refusal n p ≡ r
+refusal-told (frame f) n p e = absurd (let o : _≡_ {A = ℕ} 0 1 = cc in omega arith)
+refusal-told (short m) n p e = absurd (let o : _≡_ {A = ℕ} 0 1 = cc in omega arith)
+refusal-told (refusal m q) n p e = cc
+
+pub frame-told : (r : Reading) → Frame ≡ told r → (f : Fields Place) × (frame f ≡ r)
+frame-told (frame f) e = (f, refl)
+frame-told (short m) e = absurd (let o : _≡_ {A = ℕ} 0 1 = cc in omega arith)
+frame-told (refusal m p) e = absurd (let o : _≡_ {A = ℕ} 0 1 = cc in omega arith)
+
+-- The slots of a frame that was read.
+pub slots-told : (f : Fields Place) (r : Reading) (old new : List ℕ) → frame f ≡ r → new ≡ slotsAfter old r → new ≡ flatFrame f
+slots-told f r old new e h = rw (← e) at h

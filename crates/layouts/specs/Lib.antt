@@ -1,2 +1,0 @@
--- What the answers of reading stand for.
-pub mod Answer

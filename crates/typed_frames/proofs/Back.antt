@@ -1,0 +1,241 @@
+-- What was read comes back from its slots as it was: every number fits the width that it is cut to, and every place ends
+-- within the input, so none has the length that stands for null. Assumes nothing.
+use mathlib.Core.Path.{_≡_, refl, _∙_, sym, ap, ap₂, subst}
+use mathlib.Core.Bool.{Bool, true, false, _&&_}
+use mathlib.Core.List.{List, [], _∷_, _++_, append-assoc, map}
+use mathlib.Core.Logic.{_⊎_, inl, inr}
+use mathlib.Core.Option.{Option, none, some, Option·map}
+use Prim.Native.Nat.{ℕ, suc, _+_, _-_, _%_, _^_, _<_, _≤_}
+use native.Mathlib.Nat.{mod-eq-of-lt}
+use native.Mathlib.Omega.{arith}
+use lib.Dec.{eqb}
+use lib.IntN.{ℤ, pos, negsuc}
+use lib.ListN.{length, getD, replicate, length-append}
+use lib.Seq.{getD-append-add}
+use Rattle.wire.proofs.TwosComplement.{twos-complement}
+use Rattle.wire.proofs.Widths.{integers}
+use Rattle.wire.specs.Integers.{Bytes}
+use Rattle.wire.specs.Signed as two's
+use Rattle.protocol.specs.Fields.{Field, Fields, number, integer, elements, place, valueIn, valuesIn, EndsBy, PlacesEndBy}
+use Rattle.protocol.specs.Fields as F
+use Rattle.protocol.specs.Frames.{OfKind, OfRow}
+use Rattle.protocol.specs.Kinds.{Kind, unsigned, signed, string, specification, list, chunk, Row, end, _·_}
+use Rattle.protocol.specs.Table.{table, rowOf}
+use Rattle.protocol.specs.declared.chunk.ChunkHeader.{ChunkHeader}
+use Rattle.protocol.specs.declared.kind.Form.{Form}
+use Rattle.protocol.specs.declared.offset.OffsetSpecification.{OffsetSpecification}
+use Rattle.protocol.specs.declared.offset.OffsetSpecification.the-variants.{None, First, Last, Next, Offset, Timestamp}
+use Rattle.protocol.specs.declared.place.Place.{Place}
+use Rattle.rules.specs.Grammar.{ValidOffset, ValidHeader, ValidString, Valid, ValidRow}
+use Rattle.rules.specs.Exactness.{frameLength}
+use Rattle.rules.specs.Reading.{frame, readFrame}
+use Rattle.rules.proofs.Gives.{choice}
+use Rattle.rules.proofs.Listed.{both, row-passes, differ}
+use Rattle.rules.proofs.Inside.{inside}
+use Rattle.rules.proofs.Sound.{sound}
+use Rattle.flat.specs.Flat.{nullLength, flatOctets, flatOffset, flatHeader, flatPlace, flatField, flatRow, padded, flatFrame}
+use Rattle.flat.specs.Unflat.{slotsOf}
+use Rattle.flat.specs.Inverse.{SignedOffset, ToldOctets}
+use Rattle.flat.proofs.Inverse.{octets-back, offset-back}
+use Rattle.flat.proofs.Padding.{field-slots}
+use Rattle.frame_reading.specs.Answer.{told, slotsAfter}
+use Rattle.frame_reading.specs.declared.reading.FrameRead.the-variants.{Frame}
+use Rattle.frame_reading.proofs.Told.{frame-told, slots-told}
+use Rattle.protocol.specs.Decision.{layout, decide}
+use Rattle.typed_frames.specs.Typed.{cut, typedHeader, typedChunk, typedField, typedRow, typedFields}
+
+-- ---- A chunk's header
+
+-- The low bytes of the 64 bits of a number of fewer bytes are its bits.
+low-byte : (z : ℤ) → two's.Signed 1 z → two's.unsigned 8 z % 256 ^ 1 ≡ two's.unsigned 1 z
+unfolding two's.unsigned
+low-byte (pos x) h = omega (arith, h)
+low-byte (negsuc k) h = omega (arith, h)
+
+low-four : (z : ℤ) → two's.Signed 4 z → two's.unsigned 8 z % 256 ^ 4 ≡ two's.unsigned 4 z
+unfolding two's.unsigned
+low-four (pos x) h = omega (arith, h)
+low-four (negsuc k) h = omega (arith, h)
+
+byte-back : (z : ℤ) → two's.Signed 1 z → two's.signed 1 (two's.unsigned 8 z % 256 ^ 1) ≡ z
+byte-back z h = ap (two's.signed 1) (low-byte z h) ∙ twos-complement 0 .signed-unsigned z h
+
+four-back : (z : ℤ) → two's.Signed 4 z → two's.signed 4 (two's.unsigned 8 z % 256 ^ 4) ≡ z
+four-back z h = ap (two's.signed 4) (low-four z h) ∙ twos-complement 3 .signed-unsigned z h
+
+-- A chunk's type fits its byte.
+type-fits : (z : ℤ) → (z ≡ pos 0) ⊎ ((z ≡ pos 1) ⊎ (z ≡ pos 2)) → two's.Signed 1 z
+type-fits z (inl e) = rw e (omega arith)
+type-fits z (inr (inl e)) = rw e (omega arith)
+type-fits z (inr (inr e)) = rw e (omega arith)
+
+reserved-fits : (x : ℕ) → x < 256 ^ 3 → x < 256 ^ 4
+reserved-fits x h = omega (arith, h)
+
+header-back : (h : ChunkHeader) (rest : List ℕ) → ValidHeader h → typedHeader 0 (flatHeader h ++ rest) ≡ h
+header-back h rest v =
+    rw (
+      byte-back (h .magic) (v .magic),
+      byte-back (h .«chunk_type») (type-fits (h .«chunk_type») (v .type)),
+      mod-eq-of-lt (v .entries),
+      mod-eq-of-lt (v .records),
+      twos-complement 7 .signed-unsigned (h .timestamp) (v .timestamp),
+      four-back (h .checksum) (v .checksum),
+      mod-eq-of-lt (v .dataLength),
+      mod-eq-of-lt (v .trailerLength),
+      mod-eq-of-lt (v .bloomSize),
+      mod-eq-of-lt (reserved-fits (h .reserved) (v .reserved)),
+    )
+
+-- ---- Fields
+
+-- Kinds that a frame has as fields of its own; a signed number stands only in an element.
+abbrev plain : Kind → Bool
+plain (unsigned n most) = true
+plain (signed n) = false
+plain (string form nullable) = true
+plain (specification admitsNone) = true
+plain (list row) = true
+plain chunk = true
+
+abbrev plainRow : Row → Bool
+plainRow end = true
+plainRow (kind · row) = plain kind && plainRow row
+
+plain-table : (k v : ℕ) → plainRow (rowOf k v) ≡ true
+unfolding table
+plain-table k v = row-passes (λ row. plainRow row) refl table k v refl
+
+offset-fits : (admitsNone : Bool) (o : OffsetSpecification) → ValidOffset admitsNone o → SignedOffset o
+offset-fits b None h = tt
+offset-fits b First h = tt
+offset-fits b Last h = tt
+offset-fits b Next h = tt
+offset-fits b (Offset x) h = tt
+offset-fits b (Timestamp z) h = h
+
+module _ (s : List ℕ) (m : ℕ) (below : m < nullLength) where
+  -- Where there are no bytes, there is no place, and where there are some, there is one.
+  no-place : (o : Option Place) → Option·map (F.bytesAt s) o ≡ none → o ≡ none
+  no-place none e = refl
+  no-place (some p) e = cc (e)
+
+  some-place : (o : Option Place) (b : List ℕ) → Option·map (F.bytesAt s) o ≡ some b → (p : Place) × (o ≡ some p) × (F.bytesAt s p ≡ b)
+  some-place none b e = absurd (let z : _≡_ {A = ℕ} 0 1 = cc (e) in omega (arith, z))
+  some-place (some p) b e = (p, refl, cc (e))
+
+  -- A field whose value has only some parts has only these.
+  parts : (f g : Field Place) → valueIn s f ≡ valueIn s g → f .octets ≡ g .octets → f ≡ g
+  parts f g e o =
+      ap (λ (x : ℕ). record { number = x; integer = f .integer; octets = f .octets; offset = f .offset; header = f .header }) (ap (λ (v : Field (List ℕ)). v .number) e)
+      ∙ ap (λ (x : ℤ). record { number = g .number; integer = x; octets = f .octets; offset = f .offset; header = f .header }) (ap (λ (v : Field (List ℕ)). v .integer) e)
+      ∙ ap (λ (x : Option Place). record { number = g .number; integer = g .integer; octets = x; offset = f .offset; header = f .header }) o
+      ∙ ap (λ (x : OffsetSpecification). record { number = g .number; integer = g .integer; octets = g .octets; offset = x; header = f .header }) (ap (λ (v : Field (List ℕ)). v .offset) e)
+      ∙ ap (λ (x : ChunkHeader). record { number = g .number; integer = g .integer; octets = g .octets; offset = g .offset; header = x }) (ap (λ (v : Field (List ℕ)). v .header) e)
+
+  octets-of : (v w : Field (List ℕ)) → v ≡ w → v .octets ≡ w .octets
+  octets-of v w e = ap (λ (x : Field (List ℕ)). x .octets) e
+
+  of-kind : (kind : Kind) (f : Field Place) → Valid kind (valueIn s f) → OfKind kind f
+  unfolding Valid
+  of-kind (unsigned n most) f v = parts f (number (f .number)) (v .0) (no-place (f .octets) (octets-of _ _ (v .0)))
+  of-kind (signed n) f v = parts f (integer (f .integer)) (v .0) (no-place (f .octets) (octets-of _ _ (v .0)))
+  of-kind (string form nullable) f v = parts f (F.string (f .octets)) (v .0) refl
+  of-kind (specification b) f v = parts f (F.offset (f .offset)) (v .0) (no-place (f .octets) (octets-of _ _ (v .0)))
+  of-kind (list row) f (b, e, l, x) =
+      let p = some-place (f .octets) b (octets-of _ _ e) in
+      (p .0, parts f (elements (f .number) (p .0)) (e ∙ sym (ap (elements (f .number)) (p .2))) (p .1))
+  of-kind chunk f (b, e, x) =
+      let p = some-place (f .octets) b (octets-of _ _ e) in
+      (p .0, parts f (F.chunk (f .header) (p .0)) (e ∙ sym (ap (F.chunk (f .header)) (p .2))) (p .1))
+
+  told-octets : (form : Form) (nullable : Bool) (o : Option Place) → ValidString form nullable (Option·map (F.bytesAt s) o) → EndsBy m o → ToldOctets nullable o
+  told-octets form false none v i = absurd (differ v)
+  told-octets form false (some p) v i = tt
+  told-octets form true none v i = tt
+  told-octets form true (some p) v i = λ e. omega (arith, below, e, i)
+
+  uncut : (most x : ℕ) → x ≤ most → cut most x ≡ x
+  uncut most x h = choice (λ (y : ℕ). y ≡ x) (eqb most 0xffff_ffff_ffff_ffff) _ _ (λ _. refl) (λ _. mod-eq-of-lt (omega (arith, h)))
+
+  field-back : (kind : Kind) (f : Field Place) (rest : List ℕ) → plain kind ≡ true → Valid kind (valueIn s f) → EndsBy m (f .octets) → typedField kind 0 (flatField kind f ++ rest) ≡ f
+  unfolding Valid
+  field-back (unsigned n most) f rest p v i = ap number (uncut most (f .number) (v .1)) ∙ sym (of-kind (unsigned n most) f v)
+  field-back (signed n) f rest p v i = absurd (differ p)
+  field-back (string form nullable) f rest p v i = ap F.string (octets-back nullable (f .octets) rest (told-octets form nullable (f .octets) (v .1) i)) ∙ sym (of-kind (string form nullable) f v)
+  field-back (specification b) f rest p v i = ap F.offset (offset-back (f .offset) false rest (offset-fits b (f .offset) (v .1))) ∙ sym (of-kind (specification b) f v)
+  field-back (list row) f rest p v i = let o = of-kind (list row) f v in rw (o .1)
+  field-back chunk f rest p v i = let o = of-kind chunk f v in rw (o .1) (ap (λ (x : ChunkHeader). F.chunk x (o .0)) (header-back (f .header) (flatPlace (o .0) ++ rest) (v .2 .header)))
+
+  -- The fields of a row, each of which comes back from its own slots.
+  Back : Row → List (Field Place) → Type 0
+  Back end [] = Unit
+  Back end (f ∷ fs) = ⊥
+  Back (kind · row) [] = ⊥
+  Back (kind · row) (f ∷ fs) = ((rest : List ℕ) → typedField kind 0 (flatField kind f ++ rest) ≡ f) × Back row fs
+
+  row-valid : (row : Row) (fs : List (Field Place)) → plainRow row ≡ true → ValidRow row (map (valueIn s) fs) → PlacesEndBy m fs → Back row fs
+  unfolding Valid Back
+  row-valid end [] p v i = tt
+  row-valid end (f ∷ fs) p v i = absurd (let z : _≡_ {A = ℕ} 0 1 = cc (v) in omega (arith, z))
+  row-valid (kind · row) [] p (w, ws, e, v, vs) i = absurd (let z : _≡_ {A = ℕ} 0 1 = cc (e) in omega (arith, z))
+  row-valid (kind · row) (f ∷ fs) p (w, ws, e, v, vs) i =
+      let first : w ≡ valueIn s f = cc (e) in
+      let others : ws ≡ map (valueIn s) fs = cc (e) in
+      let q = both (plain kind) (plainRow row) p in
+      (λ rest. field-back kind f rest (q .0) (subst (Valid kind) first v) (i .0), row-valid row fs (q .1) (subst (ValidRow row) others vs) (i .1))
+
+-- ---- A row of fields, one behind another
+
+-- The slots of a field are found behind whatever stands in front of them.
+module _ (front slots : List ℕ) where
+  next : (i : ℕ) → getD (front ++ slots) (length front + i) 0 ≡ getD slots i 0
+  next i = getD-append-add front slots i 0
+
+  first : getD (front ++ slots) (length front) 0 ≡ getD slots 0 0
+  first = ap (λ (i : ℕ). getD (front ++ slots) i 0) (omega arith) ∙ next 0
+
+  field-behind : (kind : Kind) → typedField kind (length front) (front ++ slots) ≡ typedField kind 0 slots
+  field-behind (unsigned n most) = rw first
+  field-behind (signed n) = rw first
+  field-behind (string form nullable) = rw (first, next 1)
+  field-behind (specification b) = rw (first, next 1)
+  field-behind (list row) = rw (first, next 1, next 2)
+  field-behind chunk = rw (first, next 1, next 2, next 3, next 4, next 5, next 6, next 7, next 8, next 9, next 10, next 11, next 12, next 13)
+
+row-back : (s : List ℕ) (m : ℕ) (below : m < nullLength) (row : Row) (fs : List (Field Place)) (front rest : List ℕ) → Back s m below row fs → typedRow row (length front) (front ++ (flatRow row fs ++ rest)) ≡ fs
+unfolding Back
+row-back s m below end [] front rest b = refl
+row-back s m below end (f ∷ fs) front rest b = absurd b
+row-back s m below (kind · row) [] front rest b = absurd b
+row-back s m below (kind · row) (f ∷ fs) front rest (b, bs) =
+    let whole : front ++ ((flatField kind f ++ flatRow row fs) ++ rest) ≡ front ++ (flatField kind f ++ (flatRow row fs ++ rest)) = ap (λ (x : List ℕ). front ++ x) (append-assoc (flatField kind f) (flatRow row fs) rest) in
+    let reach : length front + slotsOf kind ≡ length (front ++ flatField kind f) = sym (length-append front (flatField kind f) ∙ ap (λ (n : ℕ). length front + n) (field-slots kind f)) in
+    rw (whole) (ap₂ (λ (a : Field Place) (l : List (Field Place)). a ∷ l) (field-behind front (flatField kind f ++ (flatRow row fs ++ rest)) kind ∙ b (flatRow row fs ++ rest))
+    (ap₂ (λ (at : ℕ) (x : List ℕ). typedRow row at x) reach (sym (append-assoc front (flatField kind f) (flatRow row fs ++ rest))) ∙ row-back s m below row fs (front ++ flatField kind f) rest bs))
+
+-- A frame that was read comes back.
+pub frame-back : (s : List ℕ) (limit : ℕ) (f : Fields Place) → Bytes s → readFrame s limit ≡ frame f → typedFields (f .key) (f .version) (flatFrame f) ≡ f
+unfolding typedFields flatFrame padded
+frame-back s limit f bytes e =
+    let v = sound s limit f bytes e in
+    let below : frameLength s < nullLength = omega (arith, integers 4 .range s 0 bytes) in
+    ap (λ (c : List (Field Place)). record { key = f .key; version = f .version; content = c })
+    (row-back s (frameLength s) below (rowOf (f .key) (f .version)) (f .content) (f .key ∷ f .version ∷ []) (replicate (24 - length (f .key ∷ f .version ∷ flatRow (rowOf (f .key) (f .version)) (f .content))) 0)
+    (row-valid s (frameLength s) below (rowOf (f .key) (f .version)) (f .content) (plain-table (f .key) (f .version)) (v .valid .content) (inside s limit f e)))
+
+-- What the slots of a frame that was read say: its key and version are listed, and the typed frame that they give is it.
+module _ (s : List ℕ) (limit : ℕ) (old new : List ℕ) (bytes : Bytes s) (t : Frame ≡ told (readFrame s limit)) (h : new ≡ slotsAfter old (readFrame s limit)) where
+  read : (f : Fields Place) × (frame f ≡ readFrame s limit)
+  read = frame-told (readFrame s limit) t
+
+  slots : new ≡ flatFrame (read .0)
+  slots = slots-told (read .0) (readFrame s limit) old new (read .1) h
+
+  pub read-listed : decide (getD new 0 0) (getD new 1 0) ≡ layout (getD new 0 0) (getD new 1 0)
+  unfolding flatFrame padded
+  read-listed = rw slots (sound s limit (read .0) bytes (sym (read .1)) .valid .listed)
+
+  pub read-typed : (g : Fields Place) → g ≡ typedFields (getD new 0 0) (getD new 1 0) new → frame g ≡ readFrame s limit
+  unfolding flatFrame padded
+  read-typed g e = ap frame (e ∙ ap (λ (x : List ℕ). typedFields (getD x 0 0) (getD x 1 0) x) slots ∙ frame-back s limit (read .0) bytes (sym (read .1))) ∙ read .1
