@@ -1,4 +1,4 @@
--- A typed frame from its slots: every number is cut to the width of its field.
+-- A typed frame from its slots: every number is cut to the width of the type that holds it.
 use mathlib.Core.Bool.{false, cond}
 use mathlib.Core.List.{List, [], _∷_}
 use Prim.Native.Nat.{ℕ, suc, _+_, _%_, _^_}
