@@ -13,7 +13,7 @@ use borrow.Author.Tests.{ne-eqb, eqb-true}
 use Rattle.wire.proofs.TwosComplement.{twos-complement}
 use Rattle.protocol.proofs.FrameRows.{of-table}
 use Rattle.protocol.specs.Decision.{Decision, layout, unlistedKey, unlistedVersion, decide}
-use Rattle.protocol.specs.Fields.{Field, Fields, integer, place}
+use Rattle.protocol.specs.Fields.{Field, Fields, integer}
 use Rattle.protocol.specs.Fields as F
 use Rattle.protocol.specs.Frames.{fieldsOf, OfKind, OfRow}
 use Rattle.protocol.specs.Kinds.{Kind, unsigned, signed, string, specification, list, chunk, Row, end, _·_}
@@ -70,7 +70,7 @@ field-back (specification b) f rest o h t = ap (λ (x : OffsetSpecification). F.
 field-back (list row) f rest (p, e) h t = rw e
 field-back chunk f rest (p, e) h t = rw e (ap (λ (x : ChunkHeader). F.chunk x p) (header-back (f .header) (flatPlace p ++ rest) h))
 
-field-behind : (kind : Kind) (f : Field Place) (rest : List ℕ) → drop (slotsOf kind) (flatField kind f ++ rest) ≡ rest
+pub field-behind : (kind : Kind) (f : Field Place) (rest : List ℕ) → drop (slotsOf kind) (flatField kind f ++ rest) ≡ rest
 field-behind (unsigned n most) f rest = refl
 field-behind (signed n) f rest = refl
 field-behind (string form nullable) f rest = octets-behind nullable (f .octets) rest
@@ -89,7 +89,7 @@ row-back (kind · row) (f ∷ fs) rest (o, os) (h, hs) (t, ts) =
     (ap (λ (s : List ℕ). unflatRow row s) (field-behind kind f (flatRow row fs ++ rest)) ∙ row-back row fs rest os hs ts)
 
 -- The slots behind those of the fields.
-abbrev spare : Fields Place → List ℕ
+abbrev pub spare : Fields Place → List ℕ
 spare f = replicate (24 - length (f .key ∷ f .version ∷ flatRow (rowOf (f .key) (f .version)) (f .content))) 0
 
 pub flat-inverse : FlatInverse
@@ -133,7 +133,7 @@ row-written (kind · row) src (f ∷ fs) rest (o, os) (h, hs) =
     (field-written kind src f (flatRow row fs ++ rest) o h)
     (ap (λ (s : List ℕ). writeRow row src (unflatRow row s)) (field-behind kind f (flatRow row fs ++ rest)) ∙ row-written row src fs rest os hs)
 
-frame-written : (f : Fields Place) → OfRow (rowOf (f .key) (f .version)) (f .content) → SignedRow (rowOf (f .key) (f .version)) (f .content) → (src : List ℕ) (limit : ℕ) (out : List ℕ) → writeFrame (unflatFrame (flatFrame f)) src limit out ≡ writeFrame f src limit out
+pub frame-written : (f : Fields Place) → OfRow (rowOf (f .key) (f .version)) (f .content) → SignedRow (rowOf (f .key) (f .version)) (f .content) → (src : List ℕ) (limit : ℕ) (out : List ℕ) → writeFrame (unflatFrame (flatFrame f)) src limit out ≡ writeFrame f src limit out
 unfolding flatFrame padded unflatFrame writeFrame
 frame-written f o h src limit out = by (decide (f .key) (f .version)) refl
   where

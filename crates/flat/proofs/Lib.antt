@@ -4,3 +4,6 @@ pub mod Behind
 pub mod FieldKinds
 pub mod Inverse
 pub mod Padding
+pub mod Fields
+pub mod RoundTrips
+pub mod Demand2

@@ -15,6 +15,7 @@ use Rattle.protocol.specs.declared.chunk.ChunkHeader.{ChunkHeader}
 use Rattle.protocol.specs.declared.offset.OffsetSpecification.{OffsetSpecification}
 use Rattle.protocol.specs.declared.offset.OffsetSpecification.the-variants.{None, First, Last, Next, Offset, Timestamp}
 use Rattle.protocol.specs.declared.place.Place.{Place}
+use Rattle.rules.specs.Reading.{Reading, frame, short, refusal}
 use Rattle.rules.specs.Writing.{placeOf}
 
 -- A signed number is its 64 bits in two's complement.
@@ -89,6 +90,12 @@ padded n xs = xs ++ replicate (n - length xs) 0
 -- Key, version, then the content's fields.
 unfoldable pub flatFrame : Fields Place → List ℕ
 flatFrame f = padded 24 (f .key ∷ f .version ∷ flatRow (rowOf (f .key) (f .version)) (f .content))
+
+-- What slots hold after a frame was read into them. A refusal leaves them as they were.
+abbrev pub slotsAfter : List ℕ → Reading → List ℕ
+slotsAfter old (frame f) = flatFrame f
+slotsAfter old (short needed) = old
+slotsAfter old (refusal n place) = old
 
 -- The fields of an element by its row.
 unfoldable pub flatElement : Row → List (Field Place) → List ℕ

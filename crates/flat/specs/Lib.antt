@@ -2,3 +2,5 @@
 pub mod Flat
 pub mod Unflat
 pub mod Inverse
+pub mod Slots
+pub mod Demand2

@@ -18,11 +18,11 @@ use Rattle.rules.proofs.Bounds.{Bounded, bounded-row}
 use Rattle.rules.proofs.Listed.{row-passes}
 use Rattle.fields.specs.Cursor.{landed}
 use Rattle.fields.specs.declared.cursor.Cursor.{Cursor}
-use Rattle.flat.specs.Flat.{flatRow, padded, flatFrame}
+use Rattle.flat.specs.Flat.{flatRow, padded, flatFrame, slotsAfter}
 use Rattle.flat.specs.Unflat.{slotsIn}
 use Rattle.flat.proofs.Padding.{field-slots, splice-padded}
 use Rattle.field_slots.specs.Reading.{Filled}
-use Rattle.frame_reading.specs.Answer.{told, slotsAfter}
+use Rattle.frame_reading.specs.Answer.{told}
 use Rattle.frame_reading.specs.declared.reading.FrameRead.{FrameRead}
 use Rattle.frame_reading.specs.declared.reading.FrameRead.the-variants.{Frame}
 

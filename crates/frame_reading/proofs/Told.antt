@@ -6,8 +6,8 @@ use native.Mathlib.Omega.{arith}
 use Rattle.protocol.specs.Fields.{Fields}
 use Rattle.protocol.specs.declared.place.Place.{Place}
 use Rattle.rules.specs.Reading.{Reading, frame, short, refusal}
-use Rattle.flat.specs.Flat.{flatFrame}
-use Rattle.frame_reading.specs.Answer.{told, slotsAfter}
+use Rattle.flat.specs.Flat.{flatFrame, slotsAfter}
+use Rattle.frame_reading.specs.Answer.{told}
 use Rattle.frame_reading.specs.declared.reading.FrameRead.the-variants.{Frame, Short, Refused}
 
 pub short-told : (r : Reading) (n : ℕ) → Short n ≡ told r → short n ≡ r

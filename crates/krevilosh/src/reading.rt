@@ -4,7 +4,7 @@ ghost use Rattle.rules.specs.Reading.{readFrame};
 ghost use Rattle.credit.specs.Calls.{received};
 ghost use Rattle.credit.specs.Step.{answer, after};
 ghost use Rattle.receiving.specs.Answer.{slotsAfter};
-ghost use Rattle.frame_reading.specs.Answer as reading;
+ghost use Rattle.flat.specs.Flat as flat;
 ghost use Rattle.krevilosh.specs.Answer.{creditNumber, numberRead, readNumber, NeededFits};
 use crate::packed;
 use frame_reading::FrameRead;
@@ -15,7 +15,7 @@ use receiving::Received;
 #[no_mangle]
 pub extern "C" fn krevilosh_read(bytes: &[u8], limit: u32, frame: &mut [u64; 24]) -> u64
     ensures { λ r. ⌜ r ≡ readNumber (readFrame (now (bytes .entry)) limit) ⌝ }
-    ensures { λ _. ⌜ now (frame .exit) ≡ reading.slotsAfter (now (frame .entry)) (readFrame (now (bytes .entry)) limit) ⌝ }
+    ensures { λ _. ⌜ now (frame .exit) ≡ flat.slotsAfter (now (frame .entry)) (readFrame (now (bytes .entry)) limit) ⌝ }
 {
     let read = frame_reading::read(bytes, limit, frame);
     number_of(read)

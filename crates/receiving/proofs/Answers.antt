@@ -12,8 +12,8 @@ use Rattle.protocol.specs.declared.place.Place.{Place}
 use Rattle.rules.specs.Reading.{readFrame}
 use Rattle.rules.specs.Reading as rules
 use Rattle.flat.specs.Flat.{flatFrame}
+use Rattle.flat.specs.Flat as flat
 use Rattle.frame_reading.specs.Answer.{told}
-use Rattle.frame_reading.specs.Answer as reading
 use Rattle.frame_reading.specs.declared.reading.FrameRead.{FrameRead}
 use Rattle.frame_reading.specs.declared.reading.FrameRead.the-variants.{Frame}
 use Rattle.frame_reading.proofs.Told.{frame-told, slots-told}
@@ -44,16 +44,16 @@ module _ (l s : List ℕ) (limit : ℕ) (old : List ℕ) where
       by (rules.refusal n place) e = (ap answers.Reading e, (refl, refl))
 
   -- Slots that such a reading left.
-  pub not-read : (r : FrameRead) (new : List ℕ) → r ≡ told (readFrame s limit) → new ≡ reading.slotsAfter old (readFrame s limit) → OneOf (1 ∷ 2 ∷ []) (tagOf the-type r) → Answers (answers.Reading r) l new
+  pub not-read : (r : FrameRead) (new : List ℕ) → r ≡ told (readFrame s limit) → new ≡ flat.slotsAfter old (readFrame s limit) → OneOf (1 ∷ 2 ∷ []) (tagOf the-type r) → Answers (answers.Reading r) l new
   not-read r new e h k = let a = no-frame r e k in (a .0, (a .1 .0, h ∙ left (readFrame s limit) e ∙ a .1 .1))
     where
-      left : (x : rules.Reading) → r ≡ told x → reading.slotsAfter old x ≡ old
+      left : (x : rules.Reading) → r ≡ told x → flat.slotsAfter old x ≡ old
       left (rules.frame f) e = absurd (miss (1 ∷ 2 ∷ []) 0 tt (subst (λ (x : FrameRead). OneOf (1 ∷ 2 ∷ []) (tagOf the-type x)) e k))
       left (rules.short needed) e = refl
       left (rules.refusal n place) e = refl
 
   -- A frame that was read into slots.
-  module _ (r : FrameRead) (is : r ≡ Frame) (t : r ≡ told (readFrame s limit)) (z new : List ℕ) (h : new ≡ reading.slotsAfter z (readFrame s limit)) (o : Option ℕ) (l' : List ℕ) (a : o ≡ addressed s) (q : l' ≡ spent l o) where
+  module _ (r : FrameRead) (is : r ≡ Frame) (t : r ≡ told (readFrame s limit)) (z new : List ℕ) (h : new ≡ flat.slotsAfter z (readFrame s limit)) (o : Option ℕ) (l' : List ℕ) (a : o ≡ addressed s) (q : l' ≡ spent l o) where
     abbrev f : Fields Place
     f = frame-told (readFrame s limit) (sym is ∙ t) .0
 

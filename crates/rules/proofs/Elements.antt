@@ -22,7 +22,7 @@ use Rattle.rules.specs.Elements.{Asked, found, refusal, asked, readNth, 
 use Rattle.rules.proofs.Bounds.{Numbered, numbered-repeated, numbered-row, numbered-entry}
 use Rattle.rules.proofs.Gives.{Gives, choice, check, after-number}
 use Rattle.rules.proofs.Heads.{Head, head}
-use Rattle.rules.proofs.Inside.{inside-row, moved, inside}
+use Rattle.rules.proofs.Inside.{inside-row, moved, inside, ends-later}
 use Rattle.rules.proofs.Parts.{length-part}
 
 -- ---- Parts
@@ -42,17 +42,6 @@ parts-are-values s (f ∷ fs) h = ap₂ (λ x xs. x ∷ xs) (one f (h .0)) (part
 
     one : (f : Field Place) → EndsBy (length s) (f .octets) → overPlaces (partAt s) f ≡ overPlaces (bytesAt s) f
     one f h = λ i. record { number = f .number; integer = f .integer; octets = by (f .octets) h i; offset = f .offset; header = f .header }
-
-ends-later : (n m : ℕ) (fs : List (Field Place)) → n ≤ m → PlacesEndBy n fs → PlacesEndBy m fs
-ends-later n m [] l h = tt
-ends-later n m (f ∷ fs) l h = (one (f .octets) (h .0), ends-later n m fs l (h .1))
-  where
-    one : (o : Option Place) → EndsBy n o → EndsBy m o
-    one none h = tt
-    one (some p) h = sum (p .at) (p .len) h
-      where
-        sum : (a b : ℕ) → a + b ≤ n → a + b ≤ m
-        sum a b h = omega (arith, h, l)
 
 -- The part of any place of a frame that was read is exactly that field's bytes.
 pub parts-of-a-frame : (s : List ℕ) (limit : ℕ) (f : Fields Place) → readFrame s limit ≡ frame f → map (overPlaces (partAt s)) (f .content) ≡ map (valueIn s) (f .content)

@@ -146,3 +146,15 @@ inside s limit f e =
     room size l w =
         let g : 8 + (size - 4) ≤ length s = omega (arith, l, w) in
         omega (arith, length-part (size - 4) 8 s g, l)
+
+-- Places that end by n end by what is no less.
+pub ends-later : (n m : ℕ) (fs : List (Field Place)) → n ≤ m → PlacesEndBy n fs → PlacesEndBy m fs
+ends-later n m [] l h = tt
+ends-later n m (f ∷ fs) l h = (one (f .octets) (h .0), ends-later n m fs l (h .1))
+  where
+    one : (o : Option Place) → EndsBy n o → EndsBy m o
+    one none h = tt
+    one (some p) h = sum (p .at) (p .len) h
+      where
+        sum : (a b : ℕ) → a + b ≤ n → a + b ≤ m
+        sum a b h = omega (arith, h, l)

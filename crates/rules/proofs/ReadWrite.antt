@@ -2,17 +2,16 @@
 -- in the source, so it is written as it is encoded, and those are the bytes that were read. Assumes nothing.
 use mathlib.Core.Path.{_≡_, sym, ap, ap₂, subst, _∙_}
 use mathlib.Core.Bool.{true, false}
-use mathlib.Core.List.{List, [], _∷_, _++_, append-assoc, map}
-use mathlib.Core.Option.{Option, none, some}
+use mathlib.Core.List.{List, [], _++_, append-assoc, map}
 use Prim.Native.Nat.{ℕ, _+_, _^_, _≤_, _<_}
 use native.Mathlib.Omega.{arith}
 use lib.ListN.{length as len, take, drop, length-append}
 use lib.Seq.{take-at}
 use borrow.Author.Tests.{le-ltb}
 use Rattle.wire.specs.Buffer.{splice}
-use Rattle.wire.specs.Integers.{Bytes, digits, bigEndian}
+use Rattle.wire.specs.Integers.{digits, bigEndian}
 use Rattle.wire.proofs.Widths.{integers}
-use Rattle.protocol.specs.Fields.{Field, Fields, valueIn, valuesIn, EndsBy, PlacesEndBy}
+use Rattle.protocol.specs.Fields.{Fields, valueIn, valuesIn, PlacesEndBy}
 use Rattle.protocol.specs.Frames.{fieldsOf}
 use Rattle.protocol.specs.Table.{rowOf}
 use Rattle.protocol.specs.declared.place.Place.{Place}
@@ -23,7 +22,7 @@ use Rattle.rules.specs.Writing.{wrote, length, writeEncoded, writeDecide
 use Rattle.rules.specs.Exactness.{Starts, frameLength}
 use Rattle.rules.proofs.Listed.{chunk-last-row}
 use Rattle.rules.proofs.WriteField.{writes-row}
-use Rattle.rules.proofs.Inside.{inside}
+use Rattle.rules.proofs.Inside.{inside, ends-later}
 use Rattle.rules.proofs.Sound.{sound}
 
 -- The frame is Size and as many bytes as it says.
@@ -76,21 +75,9 @@ module _ (s : List ℕ) (limit : ℕ) (v : Fields (List ℕ)) (h : Starts s limi
   whole-there : frameLength s ≤ len s
   whole-there = omega (arith, encoded-length, ap len (h .whole), length-append (encodeFrame v) (h .rest))
 
--- Places that end by n end by what is no less.
-end-later : (n m : ℕ) (fs : List (Field Place)) → n ≤ m → PlacesEndBy n fs → PlacesEndBy m fs
-end-later n m [] l h = tt
-end-later n m (f ∷ fs) l h = (one (f .octets) (h .0), end-later n m fs l (h .1))
-  where
-    one : (o : Option Place) → EndsBy n o → EndsBy m o
-    one none h = tt
-    one (some p) h = sum (p .at + p .len) h
-      where
-        sum : (a : ℕ) → a ≤ n → a ≤ m
-        sum a h = omega (arith, h, l)
-
 pub read-then-write : ReadThenWrite
 read-then-write s limit f out b e l =
-    writes-frame f s limit out (h .valid) (end-later (frameLength s) (len s) (f .content) (whole-there s limit (valuesIn s f) h) (inside s limit f e)) (h .within) (subst (λ n. n ≤ len out) (sym (encoded-length s limit (valuesIn s f) h)) l)
+    writes-frame f s limit out (h .valid) (ends-later (frameLength s) (len s) (f .content) (whole-there s limit (valuesIn s f) h) (inside s limit f e)) (h .within) (subst (λ n. n ≤ len out) (sym (encoded-length s limit (valuesIn s f) h)) l)
     ∙ ap (λ t. writes t out) (sym (encoded-bytes s limit (valuesIn s f) h))
   where
     h : Starts s limit (valuesIn s f)

@@ -14,10 +14,9 @@ use Rattle.wire.specs.Integers.{Bytes, digits}
 use Rattle.wire.proofs.Splice.{length-splice}
 use Rattle.protocol.specs.Decision.{Decision, layout, unlistedKey, unlistedVersion, decide}
 use Rattle.protocol.specs.Fields.{Fields, valuesIn, PlacesEndBy}
-use Rattle.protocol.specs.Frames.{fieldsOf, valuesOf, OfRow}
+use Rattle.protocol.specs.Frames.{fieldsOf, OfRow}
 use Rattle.protocol.specs.Refusals.{frameTooLarge, noRoom, unknownKey, unknownVersion}
 use Rattle.protocol.specs.Table.{rowOf}
-use Rattle.protocol.specs.declared.frame.Frame.{Frame}
 use Rattle.protocol.specs.declared.place.Place.{Place}
 use Rattle.protocol.proofs.FrameRows.{of-table}
 use Rattle.rules.specs.Exactness.{Starts, frameLength}
@@ -112,37 +111,37 @@ module _ (f : Fields Place) (src : List ℕ) (limit : ℕ) (out : List ℕ) wher
       by unlistedVersion p e = absurd (no-length unknownVersion n e)
 
 -- The output starts with the frame's encoding, so completeness says how it is read.
-module _ (f : Frame) (src : List ℕ) (limit : ℕ) (out : List ℕ) (n : ℕ) (after : List ℕ) (w : WrittenFrame (fieldsOf f) src limit out n after) where
+module _ (f : Fields Place) (src : List ℕ) (limit : ℕ) (out : List ℕ) (n : ℕ) (after : List ℕ) (w : WrittenFrame f src limit out n after) where
   abbrev encoded : List ℕ
-  encoded = encodeFrame (valuesOf f src)
+  encoded = encodeFrame (valuesIn src f)
 
   whole : after ≡ encoded ++ drop (len encoded) out
   whole = w .holds ∙ splice-start out encoded
 
-  starts : Starts after limit (valuesOf f src)
+  starts : Starts after limit (valuesIn src f)
   starts = record { valid = w .valid; within = w .within; rest = drop (len encoded) out; whole = whole }
 
   same : n ≡ frameLength after
-  same = omega (arith, w .answer, size-read after limit (valuesOf f src) starts)
+  same = omega (arith, w .answer, size-read after limit (valuesIn src f) starts)
 
   long : len encoded ≡ n
-  long = encoded-length after limit (valuesOf f src) starts ∙ sym same
+  long = encoded-length after limit (valuesIn src f) starts ∙ sym same
 
-  reads-back : WroteAndReads f src limit out n after
+  pub reads-back : WroteAndReads f src limit out n after
   reads-back =
       record {
         answer = same;
         room = w .room;
         inside = w .places;
-        bytes = ap (λ m. take m after) same ∙ encoded-bytes after limit (valuesOf f src) starts;
+        bytes = ap (λ m. take m after) same ∙ encoded-bytes after limit (valuesIn src f) starts;
         untouched = ap (drop n) whole ∙ (drop-at encoded (drop (len encoded) out) n long ∙ ap (λ m. drop m out) long);
         as-long = ap len (w .holds) ∙ length-splice out encoded 0 (omega (arith, long, w .room));
-        back = complete after limit (valuesOf f src) starts;
+        back = complete after limit (valuesIn src f) starts;
       }
 
 pub write-then-read : WriteThenRead
 write-then-read f src limit out n b e =
-    reads-back f src limit out n _ (written-frame (fieldsOf f) src limit out n b (of-table f) e)
+    reads-back (fieldsOf f) src limit out n _ (written-frame (fieldsOf f) src limit out n b (of-table f) e)
 
 pub refused-write-touches-nothing : RefusedWriteTouchesNothing
 unfolding writeFrame

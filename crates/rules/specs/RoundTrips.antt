@@ -28,26 +28,26 @@ ReadThenWrite =
     → frameLength s ≤ len out
     → writeFrame f s limit out ≡ writes (take (frameLength s) s) out
 
--- What is known of a typed frame that was written, with n for an answer: what the output then holds.
-pub record WroteAndReads (f : Frame) (src : List ℕ) (limit : ℕ) (out : List ℕ) (n : ℕ) (after : List ℕ) : Type 0 where
+-- What is known of a frame that was written, with n for an answer: what the output then holds.
+pub record WroteAndReads (f : Fields Place) (src : List ℕ) (limit : ℕ) (out : List ℕ) (n : ℕ) (after : List ℕ) : Type 0 where
   -- The answer is the frame's length, and the output had room for it.
   pub answer : n ≡ frameLength after
   pub room : n ≤ len out
   -- Every place of the frame lies in the source.
-  pub inside : PlacesEndBy (len src) (fieldsOf f .content)
+  pub inside : PlacesEndBy (len src) (f .content)
   -- Its bytes are the encoding of its fields, and no other byte of the output is touched.
-  pub bytes : take n after ≡ encodeFrame (valuesOf f src)
+  pub bytes : take n after ≡ encodeFrame (valuesIn src f)
   pub untouched : drop n after ≡ drop n out
   pub as-long : len after ≡ len out
   -- Under the same limit the output is read as a frame with the same fields.
-  pub back : (g : Fields Place) × (readFrame after limit ≡ frame g) × (valuesIn after g ≡ valuesOf f src)
+  pub back : (g : Fields Place) × (readFrame after limit ≡ frame g) × (valuesIn after g ≡ valuesIn src f)
 
 -- Under the same limit, reading a frame that was written gives the same fields.
 abbrev pub WriteThenRead : Type 0
 WriteThenRead =
     (f : Frame) (src : List ℕ) (limit : ℕ) (out : List ℕ) (n : ℕ) → Bytes src
     → writeFrame (fieldsOf f) src limit out .answer ≡ length n
-    → WroteAndReads f src limit out n (writeFrame (fieldsOf f) src limit out .out)
+    → WroteAndReads (fieldsOf f) src limit out n (writeFrame (fieldsOf f) src limit out .out)
 
 -- Every well-formed frame whose places lie in the source is written, under a limit that it is within, into enough room.
 abbrev pub WellFormedIsWritten : Type 0

@@ -1,11 +1,9 @@
 -- What was read comes back from its slots as it was: every number fits the width that it is cut to, and every place ends
 -- within the input, so none has the length that stands for null. Assumes nothing.
-use mathlib.Core.Path.{_≡_, refl, _∙_, sym, ap, ap₂, subst}
-use mathlib.Core.Bool.{Bool, true, false, _&&_}
+use mathlib.Core.Path.{_≡_, refl, _∙_, sym, ap, ap₂}
+use mathlib.Core.Bool.{true, false}
 use mathlib.Core.List.{List, [], _∷_, _++_, append-assoc, map}
-use mathlib.Core.Logic.{_⊎_, inl, inr}
-use mathlib.Core.Option.{Option, none, some, Option·map}
-use Prim.Native.Nat.{ℕ, suc, _+_, _-_, _%_, _^_, _<_, _≤_}
+use Prim.Native.Nat.{ℕ, _+_, _-_, _%_, _^_, _<_, _≤_}
 use native.Mathlib.Nat.{mod-eq-of-lt}
 use native.Mathlib.Omega.{arith}
 use lib.Dec.{eqb}
@@ -16,33 +14,30 @@ use Rattle.wire.proofs.TwosComplement.{twos-complement}
 use Rattle.wire.proofs.Widths.{integers}
 use Rattle.wire.specs.Integers.{Bytes}
 use Rattle.wire.specs.Signed as two's
-use Rattle.protocol.specs.Fields.{Field, Fields, number, integer, elements, place, valueIn, valuesIn, EndsBy, PlacesEndBy}
+use Rattle.protocol.specs.Fields.{Field, Fields, number, valueIn, EndsBy, PlacesEndBy}
 use Rattle.protocol.specs.Fields as F
-use Rattle.protocol.specs.Frames.{OfKind, OfRow}
 use Rattle.protocol.specs.Kinds.{Kind, unsigned, signed, string, specification, list, chunk, Row, end, _·_}
-use Rattle.protocol.specs.Table.{table, rowOf}
+use Rattle.protocol.specs.Table.{rowOf}
 use Rattle.protocol.specs.declared.chunk.ChunkHeader.{ChunkHeader}
-use Rattle.protocol.specs.declared.kind.Form.{Form}
-use Rattle.protocol.specs.declared.offset.OffsetSpecification.{OffsetSpecification}
-use Rattle.protocol.specs.declared.offset.OffsetSpecification.the-variants.{None, First, Last, Next, Offset, Timestamp}
 use Rattle.protocol.specs.declared.place.Place.{Place}
-use Rattle.rules.specs.Grammar.{ValidOffset, ValidHeader, ValidString, Valid, ValidRow}
+use Rattle.rules.specs.Grammar.{ValidHeader, Valid, ValidRow}
 use Rattle.rules.specs.Exactness.{frameLength}
 use Rattle.rules.specs.Reading.{frame, readFrame}
 use Rattle.rules.proofs.Gives.{choice}
-use Rattle.rules.proofs.Listed.{both, row-passes, differ}
+use Rattle.rules.proofs.CompleteChunks.{type-fits}
+use Rattle.rules.proofs.Listed.{both, differ}
 use Rattle.rules.proofs.Inside.{inside}
 use Rattle.rules.proofs.Sound.{sound}
-use Rattle.flat.specs.Flat.{nullLength, flatOctets, flatOffset, flatHeader, flatPlace, flatField, flatRow, padded, flatFrame}
+use Rattle.flat.specs.Flat.{nullLength, flatHeader, flatPlace, flatField, flatRow, padded, flatFrame, slotsAfter}
 use Rattle.flat.specs.Unflat.{slotsOf}
-use Rattle.flat.specs.Inverse.{SignedOffset, ToldOctets}
+use Rattle.flat.proofs.Fields.{plain, plainRow, plain-table, offset-fits, of-kind, row-cases, no-more, no-fewer, told-octets}
 use Rattle.flat.proofs.Inverse.{octets-back, offset-back}
 use Rattle.flat.proofs.Padding.{field-slots}
-use Rattle.frame_reading.specs.Answer.{told, slotsAfter}
+use Rattle.frame_reading.specs.Answer.{told}
 use Rattle.frame_reading.specs.declared.reading.FrameRead.the-variants.{Frame}
 use Rattle.frame_reading.proofs.Told.{frame-told, slots-told}
 use Rattle.protocol.specs.Decision.{layout, decide}
-use Rattle.typed_frames.specs.Typed.{cut, typedHeader, typedChunk, typedField, typedRow, typedFields}
+use Rattle.typed_frames.specs.Typed.{cut, typedHeader, typedField, typedRow, typedFields}
 
 -- ---- A chunk's header
 
@@ -62,12 +57,6 @@ byte-back z h = ap (two's.signed 1) (low-byte z h) ∙ twos-complement 0 .signed
 
 four-back : (z : ℤ) → two's.Signed 4 z → two's.signed 4 (two's.unsigned 8 z % 256 ^ 4) ≡ z
 four-back z h = ap (two's.signed 4) (low-four z h) ∙ twos-complement 3 .signed-unsigned z h
-
--- A chunk's type fits its byte.
-type-fits : (z : ℤ) → (z ≡ pos 0) ⊎ ((z ≡ pos 1) ⊎ (z ≡ pos 2)) → two's.Signed 1 z
-type-fits z (inl e) = rw e (omega arith)
-type-fits z (inr (inl e)) = rw e (omega arith)
-type-fits z (inr (inr e)) = rw e (omega arith)
 
 reserved-fits : (x : ℕ) → x < 256 ^ 3 → x < 256 ^ 4
 reserved-fits x h = omega (arith, h)
@@ -89,83 +78,18 @@ header-back h rest v =
 
 -- ---- Fields
 
--- Kinds that a frame has as fields of its own; a signed number stands only in an element.
-abbrev plain : Kind → Bool
-plain (unsigned n most) = true
-plain (signed n) = false
-plain (string form nullable) = true
-plain (specification admitsNone) = true
-plain (list row) = true
-plain chunk = true
-
-abbrev plainRow : Row → Bool
-plainRow end = true
-plainRow (kind · row) = plain kind && plainRow row
-
-plain-table : (k v : ℕ) → plainRow (rowOf k v) ≡ true
-unfolding table
-plain-table k v = row-passes (λ row. plainRow row) refl table k v refl
-
-offset-fits : (admitsNone : Bool) (o : OffsetSpecification) → ValidOffset admitsNone o → SignedOffset o
-offset-fits b None h = tt
-offset-fits b First h = tt
-offset-fits b Last h = tt
-offset-fits b Next h = tt
-offset-fits b (Offset x) h = tt
-offset-fits b (Timestamp z) h = h
-
 module _ (s : List ℕ) (m : ℕ) (below : m < nullLength) where
-  -- Where there are no bytes, there is no place, and where there are some, there is one.
-  no-place : (o : Option Place) → Option·map (F.bytesAt s) o ≡ none → o ≡ none
-  no-place none e = refl
-  no-place (some p) e = cc (e)
-
-  some-place : (o : Option Place) (b : List ℕ) → Option·map (F.bytesAt s) o ≡ some b → (p : Place) × (o ≡ some p) × (F.bytesAt s p ≡ b)
-  some-place none b e = absurd (let z : _≡_ {A = ℕ} 0 1 = cc (e) in omega (arith, z))
-  some-place (some p) b e = (p, refl, cc (e))
-
-  -- A field whose value has only some parts has only these.
-  parts : (f g : Field Place) → valueIn s f ≡ valueIn s g → f .octets ≡ g .octets → f ≡ g
-  parts f g e o =
-      ap (λ (x : ℕ). record { number = x; integer = f .integer; octets = f .octets; offset = f .offset; header = f .header }) (ap (λ (v : Field (List ℕ)). v .number) e)
-      ∙ ap (λ (x : ℤ). record { number = g .number; integer = x; octets = f .octets; offset = f .offset; header = f .header }) (ap (λ (v : Field (List ℕ)). v .integer) e)
-      ∙ ap (λ (x : Option Place). record { number = g .number; integer = g .integer; octets = x; offset = f .offset; header = f .header }) o
-      ∙ ap (λ (x : OffsetSpecification). record { number = g .number; integer = g .integer; octets = g .octets; offset = x; header = f .header }) (ap (λ (v : Field (List ℕ)). v .offset) e)
-      ∙ ap (λ (x : ChunkHeader). record { number = g .number; integer = g .integer; octets = g .octets; offset = g .offset; header = x }) (ap (λ (v : Field (List ℕ)). v .header) e)
-
-  octets-of : (v w : Field (List ℕ)) → v ≡ w → v .octets ≡ w .octets
-  octets-of v w e = ap (λ (x : Field (List ℕ)). x .octets) e
-
-  of-kind : (kind : Kind) (f : Field Place) → Valid kind (valueIn s f) → OfKind kind f
-  unfolding Valid
-  of-kind (unsigned n most) f v = parts f (number (f .number)) (v .0) (no-place (f .octets) (octets-of _ _ (v .0)))
-  of-kind (signed n) f v = parts f (integer (f .integer)) (v .0) (no-place (f .octets) (octets-of _ _ (v .0)))
-  of-kind (string form nullable) f v = parts f (F.string (f .octets)) (v .0) refl
-  of-kind (specification b) f v = parts f (F.offset (f .offset)) (v .0) (no-place (f .octets) (octets-of _ _ (v .0)))
-  of-kind (list row) f (b, e, l, x) =
-      let p = some-place (f .octets) b (octets-of _ _ e) in
-      (p .0, parts f (elements (f .number) (p .0)) (e ∙ sym (ap (elements (f .number)) (p .2))) (p .1))
-  of-kind chunk f (b, e, x) =
-      let p = some-place (f .octets) b (octets-of _ _ e) in
-      (p .0, parts f (F.chunk (f .header) (p .0)) (e ∙ sym (ap (F.chunk (f .header)) (p .2))) (p .1))
-
-  told-octets : (form : Form) (nullable : Bool) (o : Option Place) → ValidString form nullable (Option·map (F.bytesAt s) o) → EndsBy m o → ToldOctets nullable o
-  told-octets form false none v i = absurd (differ v)
-  told-octets form false (some p) v i = tt
-  told-octets form true none v i = tt
-  told-octets form true (some p) v i = λ e. omega (arith, below, e, i)
-
   uncut : (most x : ℕ) → x ≤ most → cut most x ≡ x
   uncut most x h = choice (λ (y : ℕ). y ≡ x) (eqb most 0xffff_ffff_ffff_ffff) _ _ (λ _. refl) (λ _. mod-eq-of-lt (omega (arith, h)))
 
   field-back : (kind : Kind) (f : Field Place) (rest : List ℕ) → plain kind ≡ true → Valid kind (valueIn s f) → EndsBy m (f .octets) → typedField kind 0 (flatField kind f ++ rest) ≡ f
   unfolding Valid
-  field-back (unsigned n most) f rest p v i = ap number (uncut most (f .number) (v .1)) ∙ sym (of-kind (unsigned n most) f v)
+  field-back (unsigned n most) f rest p v i = ap number (uncut most (f .number) (v .1)) ∙ sym (of-kind s (unsigned n most) f v)
   field-back (signed n) f rest p v i = absurd (differ p)
-  field-back (string form nullable) f rest p v i = ap F.string (octets-back nullable (f .octets) rest (told-octets form nullable (f .octets) (v .1) i)) ∙ sym (of-kind (string form nullable) f v)
-  field-back (specification b) f rest p v i = ap F.offset (offset-back (f .offset) false rest (offset-fits b (f .offset) (v .1))) ∙ sym (of-kind (specification b) f v)
-  field-back (list row) f rest p v i = let o = of-kind (list row) f v in rw (o .1)
-  field-back chunk f rest p v i = let o = of-kind chunk f v in rw (o .1) (ap (λ (x : ChunkHeader). F.chunk x (o .0)) (header-back (f .header) (flatPlace (o .0) ++ rest) (v .2 .header)))
+  field-back (string form nullable) f rest p v i = ap F.string (octets-back nullable (f .octets) rest (told-octets s m below form nullable (f .octets) (v .1) i)) ∙ sym (of-kind s (string form nullable) f v)
+  field-back (specification b) f rest p v i = ap F.offset (offset-back (f .offset) false rest (offset-fits b (f .offset) (v .1))) ∙ sym (of-kind s (specification b) f v)
+  field-back (list row) f rest p v i = let o = of-kind s (list row) f v in rw (o .1)
+  field-back chunk f rest p v i = let o = of-kind s chunk f v in rw (o .1) (ap (λ (x : ChunkHeader). F.chunk x (o .0)) (header-back (f .header) (flatPlace (o .0) ++ rest) (v .2 .header)))
 
   -- The fields of a row, each of which comes back from its own slots.
   Back : Row → List (Field Place) → Type 0
@@ -175,15 +99,14 @@ module _ (s : List ℕ) (m : ℕ) (below : m < nullLength) where
   Back (kind · row) (f ∷ fs) = ((rest : List ℕ) → typedField kind 0 (flatField kind f ++ rest) ≡ f) × Back row fs
 
   row-valid : (row : Row) (fs : List (Field Place)) → plainRow row ≡ true → ValidRow row (map (valueIn s) fs) → PlacesEndBy m fs → Back row fs
-  unfolding Valid Back
+  unfolding Back
   row-valid end [] p v i = tt
-  row-valid end (f ∷ fs) p v i = absurd (let z : _≡_ {A = ℕ} 0 1 = cc (v) in omega (arith, z))
-  row-valid (kind · row) [] p (w, ws, e, v, vs) i = absurd (let z : _≡_ {A = ℕ} 0 1 = cc (e) in omega (arith, z))
-  row-valid (kind · row) (f ∷ fs) p (w, ws, e, v, vs) i =
-      let first : w ≡ valueIn s f = cc (e) in
-      let others : ws ≡ map (valueIn s) fs = cc (e) in
+  row-valid end (f ∷ fs) p v i = absurd (no-more s f fs v)
+  row-valid (kind · row) [] p v i = absurd (no-fewer s kind row v)
+  row-valid (kind · row) (f ∷ fs) p v i =
+      let c = row-cases s kind row f fs v in
       let q = both (plain kind) (plainRow row) p in
-      (λ rest. field-back kind f rest (q .0) (subst (Valid kind) first v) (i .0), row-valid row fs (q .1) (subst (ValidRow row) others vs) (i .1))
+      (λ rest. field-back kind f rest (q .0) (c .0) (i .0), row-valid row fs (q .1) (c .1) (i .1))
 
 -- ---- A row of fields, one behind another
 
