@@ -21,7 +21,7 @@ use Rattle.protocol.specs.Refusals.{fieldCut}
 use Rattle.protocol.specs.declared.chunk.Chunk.{Chunk}
 use Rattle.protocol.specs.declared.chunk.ChunkHeader.{ChunkHeader}
 use Rattle.protocol.specs.declared.place.Place.{Place}
-use Rattle.rules.specs.Elements.{partAt}
+use Rattle.elements.specs.Questions.{partAt}
 use Rattle.rules.specs.Outcome.{Outcome, got, refused, then, refuseIf}
 use Rattle.rules.specs.Reading.{headerAt, hasEntries, readData, readEntry, readChunk, readField}
 use Rattle.rules.proofs.Bounds.{Numbered, numbered-entry, numbered-field}

@@ -7,7 +7,7 @@ use Rattle.wire.specs.Integers.{digits}
 use Rattle.protocol.specs.Fields.{Field, place, bytesAt}
 use Rattle.protocol.specs.declared.chunk.ChunkHeader.{ChunkHeader}
 use Rattle.protocol.specs.declared.place.Place.{Place}
-use Rattle.rules.specs.Elements.{partAt}
+use Rattle.elements.specs.Questions.{partAt}
 use Rattle.rules.specs.Outcome.{Outcome, got, refused}
 use Rattle.rules.specs.Reading.{headerAt, hasEntries, readEntry, readChunk}
 use Rattle.chunk_reader.specs.declared.spot.Found.{Found}

@@ -22,11 +22,11 @@ use Rattle.protocol.specs.declared.chunk.ChunkHeader.{ChunkHeader}
 use Rattle.protocol.specs.declared.place.NullablePlace.{NullablePlace}
 use Rattle.protocol.specs.declared.place.NullablePlace.the-variants.{Null, At}
 use Rattle.protocol.specs.declared.place.Place.{Place}
-use Rattle.rules.specs.Elements.{Asked, found, refusal, asked, readNth, elementAt, messageAt, octetsIn, placeIn, fieldPart, messagePart, partAt}
-use Rattle.rules.specs.Outcome.{Outcome, got, refused, then, repeated, mapped}
+use Rattle.elements.specs.Questions.{Asked, found, refusal, asked, readNth, elementAt, messageAt, octetsIn, placeIn, fieldPart, messagePart, partAt}
+use Rattle.rules.specs.Outcome.{Outcome, got, refused, repeated, mapped}
 use Rattle.rules.specs.Reading.{hasEntries, readRow, readEntry}
 use Rattle.rules.proofs.Bounds.{Numbered, numbered-row, numbered-entry, numbered-repeated}
-use Rattle.rules.proofs.Elements.{part-inside, nth-gives, nth-numbered, entry-inside, element-inside, message-inside, place-inside}
+use Rattle.elements.proofs.Questions.{part-inside, nth-gives, nth-numbered, entry-inside, element-inside, message-inside, place-inside}
 use Rattle.rules.proofs.Gives.{Gives}
 use Rattle.fields.specs.Cursor.{cursor, from, landed, foundOr}
 use Rattle.fields.specs.declared.cursor.Cursor.{Cursor}

@@ -12,7 +12,7 @@ use Rattle.protocol.specs.declared.kind.Element.the-variants as kinds
 use Rattle.protocol.specs.declared.place.NullablePlace.{NullablePlace}
 use Rattle.protocol.specs.declared.place.NullablePlace.the-variants.{Null, At}
 use Rattle.protocol.specs.declared.place.Place.{Place}
-use Rattle.rules.specs.Elements.{Asked, found, refusal, asked, partAt}
+use Rattle.elements.specs.Questions.{Asked, found, refusal, asked, partAt}
 use Rattle.rules.specs.Outcome.{Outcome, mapped}
 use Rattle.rules.specs.Reading.{readRow}
 use Rattle.fields.specs.Cursor.{from}

@@ -6,7 +6,7 @@ ghost use Rattle.protocol.specs.Fields.{overPlaces, further};
 ghost use Rattle.protocol.specs.Frames.{listField, nullableField};
 ghost use Rattle.protocol.specs.Kinds.{elementRow};
 ghost use Rattle.protocol.specs.declared.kind.Element.the-variants.{Message, FilteredMessage, PublishingId, PublishingError, Property, Name, CommandVersions, Broker, StreamMetadata, Statistic, BrokerReference};
-ghost use Rattle.rules.specs.Elements.{elementAt, numberOf, readNth};
+ghost use Rattle.elements.specs.Questions.{elementAt, numberOf, readNth};
 ghost use Rattle.rules.specs.Reading.{readRow};
 ghost use Rattle.elements.specs.Answer.{elementAnswer, elementFields, elementFrom, elementOf, ended, kindOf, NullableFits, OfElement};
 use crate::list_element::AskedElement;

@@ -3,7 +3,7 @@ ghost use mathlib.Core.Path.{_≡_};
 ghost use Prim.Native.Nat.{_+_, _<_};
 ghost use lib.ListN.{length};
 ghost use Rattle.protocol.specs.Fields.{further};
-ghost use Rattle.rules.specs.Elements.{asked, messageAt, messagePart, numberOf, readNth};
+ghost use Rattle.elements.specs.Questions.{asked, messageAt, messagePart, numberOf, readNth};
 ghost use Rattle.rules.specs.Outcome.{mapped};
 ghost use Rattle.rules.specs.Reading.{readEntry};
 ghost use Rattle.elements.specs.Answer.{placeAnswer};

@@ -1,6 +1,6 @@
 // Parts of the caller's bytes (01: text, a message or a property "comes back as a part of the caller's own bytes").
 ghost use mathlib.Core.Path.{_≡_};
-ghost use Rattle.rules.specs.Elements.{partAt};
+ghost use Rattle.elements.specs.Questions.{partAt};
 ghost use Rattle.elements.specs.Answer.{nullablePart};
 use fields::is_outside;
 use protocol::NullablePlace;

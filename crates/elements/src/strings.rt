@@ -4,7 +4,7 @@ ghost use Prim.Native.Nat.{_<_};
 ghost use Rattle.protocol.specs.Frames.{nullableField};
 ghost use Rattle.protocol.specs.Kinds.{elementRow};
 ghost use Rattle.protocol.specs.declared.kind.Element.the-variants.{Message, FilteredMessage, Property, Name, Broker, StreamMetadata, Statistic};
-ghost use Rattle.rules.specs.Elements.{elementAt, fieldPart, placeIn};
+ghost use Rattle.elements.specs.Questions.{elementAt, fieldPart, placeIn};
 ghost use Rattle.elements.specs.Answer.{elementFields};
 use crate::asking::element;
 use crate::list_element::AskedElement;

@@ -15,7 +15,7 @@ use Rattle.protocol.specs.Kinds.{elementRow}
 use Rattle.protocol.specs.declared.chunk.ChunkHeader.{ChunkHeader}
 use Rattle.protocol.specs.declared.kind.Element.{Element}
 use Rattle.protocol.specs.declared.place.Place.{Place}
-use Rattle.rules.specs.Elements.{Asked, numberOf, elementAt, messageAt}
+use Rattle.elements.specs.Questions.{Asked, numberOf, elementAt, messageAt}
 use Rattle.rules.specs.Reading.{hasEntries}
 use Rattle.elements.specs.Answer.{elementAnswer, elementFields, OfElement}
 use Rattle.elements.specs.declared.list_element.AskedElement.{AskedElement}

@@ -4,7 +4,7 @@ ghost use mathlib.Core.Path.{_≡_};
 ghost use lib.Dec.{ltb};
 ghost use Rattle.wire.specs.Signed.{signed};
 ghost use Rattle.protocol.specs.Fields.{place};
-ghost use Rattle.rules.specs.Elements.{messageAt, numberOf};
+ghost use Rattle.elements.specs.Questions.{messageAt, numberOf};
 ghost use Rattle.rules.specs.Reading.{hasEntries};
 ghost use Rattle.elements.specs.Answer.{elementAnswer};
 ghost use Rattle.krevilosh.specs.Asked.{askElement, askMessage, askedHeader, askedSlots, flatMessage, shapeOf};

@@ -26,7 +26,7 @@ use Rattle.rules.proofs.Sound.{values-further-on, sound}
 use Rattle.rules.proofs.SoundFields.{Element}
 
 -- A row's fields are read up to a place.
-abbrev ReadsRow : List ℕ → ℕ → List Value → Outcome (List (Field Place)) → Type 0
+abbrev pub ReadsRow : List ℕ → ℕ → List Value → Outcome (List (Field Place)) → Type 0
 ReadsRow s next vs o = (fs : List (Field Place)) × (o ≡ got fs next) × (map (valueIn s) fs ≡ vs)
 
 -- Every encoding of a row is read where it stands, whatever follows.
@@ -64,7 +64,7 @@ mutual
       (chunk-read s (v .header) b at l
       (subst (λ n. Part s at (encodeHeader (v .header) ++ b) n) (r c) (subst (λ u. Part s at (encode chunk u) next) e p))))
 
-  row-read : (row : Row) (s : List ℕ) (last : Bool) (vs : List Value) (at next : ℕ) → chunkLastIn last row ≡ true → (last ≡ true → next ≡ length s) → ValidRow row vs → Part s at (encodeRow row vs) next → ReadsRow s next vs (readRow row s at)
+  pub row-read : (row : Row) (s : List ℕ) (last : Bool) (vs : List Value) (at next : ℕ) → chunkLastIn last row ≡ true → (last ≡ true → next ≡ length s) → ValidRow row vs → Part s at (encodeRow row vs) next → ReadsRow s next vs (readRow row s at)
   row-read end s last vs at next c r e p = ([], (let l : at ≡ next = omega (arith, p .long) in ap (got []) l), sym e)
   row-read (k · row) s last vs at next c r (v, ws, e, valid, more) p =
       subst (λ us. ReadsRow s next us (readRow (k · row) s at)) (sym e)
@@ -104,7 +104,7 @@ unfolding readFrame readSized readDecided readLayout
 complete s limit v h = (
   fields,
   rw (le-ltb (length s) 4 (omega (arith, enough)), first .0, h .within, le-ltb size 4 (omega arith), le-ltb (length s) (size + 4) enough, second .0, third .0, h .valid .listed, r .1),
-  ap (λ vs. record { key = v .key; version = v .version; content = vs }) (sym (values-further-on s (size - 4) (r .0) in-content) ∙ r .2),
+  ap (λ vs. record { key = v .key; version = v .version; content = vs }) (sym (values-further-on s 8 (size - 4) (r .0) in-content) ∙ r .2),
 )
   where
     row : Row

@@ -14,10 +14,10 @@ use Rattle.wire.specs.Integers.{digits, bigEndian}
 use Rattle.wire.specs.Signed as two's
 use Rattle.wire.proofs.TwosComplement.{twos-complement}
 use Rattle.wire.proofs.Widths.{integers}
-use Rattle.protocol.specs.Fields.{place}
+use Rattle.protocol.specs.Fields.{place, bytesAt}
 use Rattle.protocol.specs.Fields as F
 use Rattle.protocol.specs.declared.chunk.ChunkHeader.{ChunkHeader}
-use Rattle.rules.specs.Grammar.{encodeHeader, Pieces, ValidHeader, Entry, ValidChunk}
+use Rattle.rules.specs.Grammar.{encodeHeader, Pieces, Length, ValidHeader, Entry, ValidChunk}
 use Rattle.rules.specs.Outcome.{got}
 use Rattle.rules.specs.Reading.{headerAt, readEntry, readEntries, readData, readHeaded, readChunk}
 use Rattle.rules.proofs.CompleteFields.{Reads, PieceRead, in-half, number-first, behind-number, number-read, pieces-read}
@@ -36,13 +36,16 @@ header-length : (h : ChunkHeader) → length (encodeHeader h) ≡ 48
 header-length h = simp (length-append, integers 1 .size, integers 2 .size, integers 3 .size, integers 4 .size, integers 8 .size)
 
 module _ (s : List ℕ) where
-  pub entry-read : PieceRead s Entry readEntry
+  -- An entry is read as the place of its message.
+  pub message-read : (b : List ℕ) (at next : ℕ) → Length 4 (length b) → Part s at (digits 4 (length b) ++ b) next → (readEntry s at ≡ got (place (at + 4) (length b)) next) × (bytesAt s (place (at + 4) (length b)) ≡ b)
   unfolding readEntry
-  entry-read a at next (b, l, e) p =
+  message-read b at next l r =
       let n : ℕ = length b in
-      let r : Part s at (digits 4 n ++ b) next = subst (λ t. Part s at t next) e p in
       let q : Part s (at + 4) b next = behind-number s 4 n at (at + 4) next b refl r in
-      (place (at + 4) n, rw (number-read s 4 n at (at + 4) (in-half 4 n l) (number-first s 4 n at next b r), lt-leb 0x8000_0000 n l, q .long, le-ltb (length s) next (q .within)))
+      (rw (number-read s 4 n at (at + 4) (in-half 4 n l) (number-first s 4 n at next b r), lt-leb 0x8000_0000 n l, q .long, le-ltb (length s) next (q .within)), taken s (at + 4) next n b q (q .long))
+
+  pub entry-read : PieceRead s Entry readEntry
+  entry-read a at next (b, l, e) p = (place (at + 4) (length b), message-read b at next l (subst (λ t. Part s at t next) e p) .0)
 
   -- A number that others follow, and those.
   pub next-number : (n x at mid next : ℕ) (e : List ℕ) → x < 256 ^ n → at + n ≡ mid → Part s at (digits n x ++ e) next → (bigEndian n s at ≡ x) × Part s mid e next

@@ -9,7 +9,6 @@ pub mod SoundFields
 pub mod SoundChunks
 pub mod Listed
 pub mod Heads
-pub mod Elements
 pub mod Sound
 pub mod Beyond
 pub mod CompleteFields

@@ -59,17 +59,17 @@ sound-content row c b w =
     after (ContentSound c row) (RowSound c b row 0) (readRow row c 0) _ (sound-row row c b 0 w (omega arith)) (λ fs last p.
     check (ContentSound c row) (ltb last (length c)) 11 last _ (λ e. (p .0, to-the-end c (encodeRow row (map (valueIn c) fs)) last (ltb-false _ _ e) (p .1))))
 
--- A value at a place in the content is the value further on in the frame.
-module _ (s : List ℕ) (m : ℕ) where
-  further-on : (o : Option Place) → EndsBy m o → Option·map (bytesAt (take m (drop 8 s))) o ≡ Option·map (bytesAt s) (Option·map (further 8) o)
+-- A value at a place in a part is the value further on in the whole.
+module _ (s : List ℕ) (base m : ℕ) where
+  further-on : (o : Option Place) → EndsBy m o → Option·map (bytesAt (take m (drop base s))) o ≡ Option·map (bytesAt s) (Option·map (further base) o)
   further-on none h = refl
-  further-on (some p) h = ap some (part-of-part (p .len) (p .at) m 8 s h)
+  further-on (some p) h = ap some (part-of-part (p .len) (p .at) m base s h)
 
-  pub values-further-on : (fs : List (Field Place)) → PlacesEndBy m fs → map (valueIn (take m (drop 8 s))) fs ≡ map (valueIn s) (map (overPlaces (further 8)) fs)
+  pub values-further-on : (fs : List (Field Place)) → PlacesEndBy m fs → map (valueIn (take m (drop base s))) fs ≡ map (valueIn s) (map (overPlaces (further base)) fs)
   values-further-on [] h = refl
   values-further-on (f ∷ fs) h =
-      ap (λ (o : Option (List ℕ)). record { number = f .number; integer = f .integer; octets = o; offset = f .offset; header = f .header } ∷ map (valueIn (take m (drop 8 s))) fs) (further-on (f .octets) (h .0))
-      ∙ ap (λ (vs : List Value). valueIn s (overPlaces (further 8) f) ∷ vs) (values-further-on fs (h .1))
+      ap (λ (o : Option (List ℕ)). record { number = f .number; integer = f .integer; octets = o; offset = f .offset; header = f .header } ∷ map (valueIn (take m (drop base s))) fs) (further-on (f .octets) (h .0))
+      ∙ ap (λ (vs : List Value). valueIn s (overPlaces (further base) f) ∷ vs) (values-further-on fs (h .1))
 
 -- The frame's first eight bytes, in front of a content that is well formed.
 module _ (s : List ℕ) (limit : ℕ) (b : Bytes s) where
@@ -105,7 +105,7 @@ module _ (s : List ℕ) (limit : ℕ) (b : Bytes s) where
       (also (ContentSound c (rowOf k v)) (λ fs _. PlacesEndBy (length c) fs) (readContent (rowOf k v) c) (sound-content (rowOf k v) c (bytes-part (size - 4) 8 s b) (wide-row k v)) (inside-content c (rowOf k v)))
       (λ fs last p.
       let m : PlacesEndBy (size - 4) fs = subst (λ (n : ℕ). PlacesEndBy n fs) (length-part (size - 4) 8 s (omega (arith, l, w))) (p .1) in
-      let f = values-further-on s (size - 4) fs m in
+      let f = values-further-on s 8 (size - 4) fs m in
       starts size k v _ es l w o (i .0) (i .1) (ap₂ decide (i .0) (i .1) ∙ e) (subst (ValidRow (rowOf k v)) f (p .0 .0)) (p .0 .1 ∙ ap (encodeRow (rowOf k v)) f))
     where
       c : List ℕ

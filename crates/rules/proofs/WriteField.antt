@@ -83,7 +83,7 @@ uses-up P element part each n pieces r =
     simp (pieces-read part P element each n part 0 (length part) pieces (starting part part [] (sym (append-nil part))), le-ltb (length part) (length part) (omega arith))
 
 -- The place of a list or a chunk, from its bytes.
-placed : (src : List ℕ) (o : Option Place) (b : List ℕ) → Option·map (bytesAt src) o ≡ some b → EndsBy (length src) o → (bytesAt src (placeOf o) ≡ b) × (placeOf o .at + placeOf o .len ≤ length src) × (body (Option·map (bytesAt src) o) ≡ bytesAt src (placeOf o))
+pub placed : (src : List ℕ) (o : Option Place) (b : List ℕ) → Option·map (bytesAt src) o ≡ some b → EndsBy (length src) o → (bytesAt src (placeOf o) ≡ b) × (placeOf o .at + placeOf o .len ≤ length src) × (body (Option·map (bytesAt src) o) ≡ bytesAt src (placeOf o))
 placed src none b e i = absurd (let z : _≡_ {A = ℕ} 0 1 = cc in omega arith)
 placed src (some p) b e i = (cc, i, refl)
 

@@ -1,7 +1,6 @@
 -- What reading and writing a frame mean, from 01.
 pub mod Outcome
 pub mod Reading
-pub mod Elements
 pub mod Grammar
 pub mod Exactness
 pub mod Writing

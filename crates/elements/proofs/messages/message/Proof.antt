@@ -1,7 +1,7 @@
 -- A message that is found lies within the source, so its part is its bytes.
 use Rattle.elements.proofs.Answers.{message-part}
 use Rattle.elements.specs.Answer.{placeAnswer}
-use Rattle.rules.specs.Elements.{messagePart}
+use Rattle.elements.specs.Questions.{messagePart}
 use mathlib.Core.Path.{_∙_, sym, ap}
 use borrow.Author.Needs.{needs}
 use Rattle.elements.proofs.messages.message.Statement.{statement}

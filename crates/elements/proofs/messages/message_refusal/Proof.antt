@@ -1,6 +1,6 @@
 -- By the answer.
 use Rattle.elements.specs.Answer.{placeAnswer}
-use Rattle.rules.specs.Elements.{numberOf}
+use Rattle.elements.specs.Questions.{numberOf}
 use mathlib.Core.Path.{_∙_, sym, ap}
 use borrow.Author.Needs.{needs}
 use Rattle.elements.proofs.messages.message_refusal.Statement.{statement}

@@ -1,7 +1,7 @@
 -- What is found lies within the source, so its part is its bytes.
 use Rattle.elements.proofs.Answers.{element-part}
 use Rattle.elements.specs.Answer.{elementAnswer}
-use Rattle.rules.specs.Elements.{fieldPart}
+use Rattle.elements.specs.Questions.{fieldPart}
 use mathlib.Core.Path.{_∙_, sym, ap}
 use borrow.Author.Needs.{needs}
 use Rattle.elements.proofs.strings.field_part.Statement.{statement}

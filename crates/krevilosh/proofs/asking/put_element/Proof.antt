@@ -1,7 +1,7 @@
 -- By the case.
 use mathlib.Core.Path.{_∙_, sym, ap}
 use denote.Ref.{now}
-use Rattle.rules.specs.Elements.{numberOf}
+use Rattle.elements.specs.Questions.{numberOf}
 use Rattle.elements.specs.Answer.{elementAnswer}
 use Rattle.elements.specs.declared.list_element.AskedElement.{AskedElement}
 use Rattle.krevilosh.specs.Shapes.{slotsIn}

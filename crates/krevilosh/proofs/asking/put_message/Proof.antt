@@ -3,7 +3,7 @@ use mathlib.Core.Path.{_∙_, sym, ap}
 use denote.Ref.{now}
 use Rattle.protocol.specs.Fields.{place}
 use Rattle.protocol.specs.declared.place.Place.{Place}
-use Rattle.rules.specs.Elements.{Asked, numberOf}
+use Rattle.elements.specs.Questions.{Asked, numberOf}
 use Rattle.elements.specs.Answer.{placeAnswer}
 use Rattle.krevilosh.specs.Asked.{askedHeader, askedSlots, flatMessage}
 use Rattle.krevilosh.proofs.Questions.{same-question}

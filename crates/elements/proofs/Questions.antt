@@ -10,20 +10,18 @@ use lib.Dec.{ltb, leb}
 use lib.ListN.{length}
 use borrow.Author.Tests.{le-ltb, ltb-false}
 use Rattle.wire.specs.Integers.{bigEndian}
-use Rattle.protocol.specs.Fields.{Field, Fields, bytesAt, outside, overPlaces, valueIn, further, EndsBy, PlacesEndBy}
+use Rattle.protocol.specs.Fields.{Field, bytesAt, outside, overPlaces, valueIn, further, EndsBy, PlacesEndBy}
 use Rattle.protocol.specs.Kinds.{Row}
 use Rattle.protocol.specs.Refusals.{fieldCut, valueNotAdmitted}
 use Rattle.protocol.specs.declared.chunk.ChunkHeader.{ChunkHeader}
 use Rattle.protocol.specs.declared.place.Place.{Place}
 use Rattle.rules.specs.Outcome.{Outcome, got, refused, then, repeated, mapped}
-use Rattle.rules.specs.Reading.{hasEntries, readEntry, readRow, frame, readFrame}
-use Rattle.rules.specs.Exactness.{frameLength}
-use Rattle.rules.specs.Elements.{Asked, found, refusal, asked, readNth, elementAt, messageAt, partAt, placeIn}
+use Rattle.rules.specs.Reading.{hasEntries, readEntry, readRow}
+use Rattle.elements.specs.Questions.{Asked, found, refusal, asked, readNth, elementAt, messageAt, partAt, placeIn}
 use Rattle.rules.proofs.Bounds.{Numbered, numbered-repeated, numbered-row, numbered-entry}
 use Rattle.rules.proofs.Gives.{Gives, choice, check, after-number}
-use Rattle.rules.proofs.Heads.{Head, head}
-use Rattle.rules.proofs.Inside.{inside-row, moved, inside, ends-later}
+use Rattle.rules.proofs.Inside.{inside-row, moved}
 use Rattle.rules.proofs.Parts.{length-part}
 
 -- ---- Parts
 
@@ -42,12 +40,6 @@ parts-are-values s (f ∷ fs) h = ap₂ (λ x xs. x ∷ xs) (one f (h .0)) (part
 
     one : (f : Field Place) → EndsBy (length s) (f .octets) → overPlaces (partAt s) f ≡ overPlaces (bytesAt s) f
     one f h = λ i. record { number = f .number; integer = f .integer; octets = by (f .octets) h i; offset = f .offset; header = f .header }
-
--- The part of any place of a frame that was read is exactly that field's bytes.
-pub parts-of-a-frame : (s : List ℕ) (limit : ℕ) (f : Fields Place) → readFrame s limit ≡ frame f → map (overPlaces (partAt s)) (f .content) ≡ map (valueIn s) (f .content)
-parts-of-a-frame s limit f e =
-    let there : Head s (frame f) = subst (Head s) e (head s limit) in
-    parts-are-values s (f .content) (ends-later (frameLength s) (length s) (f .content) (there .1) (inside s limit f e))
 
 -- ---- Elements and messages
 
