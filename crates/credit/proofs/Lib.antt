@@ -3,3 +3,4 @@ pub mod Delivers
 pub mod Ids
 pub mod Demand3
 pub mod MarkedCases
+pub mod Numbers

@@ -2,3 +2,4 @@
 pub mod Entries
 mod Steps
 pub mod Demand3
+pub mod Numbers

@@ -4,3 +4,4 @@ pub mod Rules
 pub mod Answers
 pub mod History
 pub mod Demand3
+pub mod Numbers

@@ -2,3 +2,4 @@
 pub mod Calls
 pub mod Step
 pub mod Demand3
+pub mod Numbers

@@ -2,11 +2,11 @@
 -- number other than 0 and a place in the part or at its end. So 0 can say that there is no refusal. Each check names
 -- its number and its place, and what is read one behind another has the first refusal. Assumes nothing.
 use mathlib.Core.Path.{_≡_, refl}
-use mathlib.Core.Bool.{Bool, true, false, not, cond}
+use mathlib.Core.Bool.{Bool, true, false, not, cond, _&&_}
 use mathlib.Core.List.{List}
 use Prim.Native.Nat.{ℕ, zero, suc, _+_, _≤_, _<_}
 use native.Mathlib.Omega.{arith}
-use lib.Dec.{eqb, ltb, leb}
+use lib.Dec.{T, eqb, ltb, leb, leb→le}
 use lib.IntN.{ℤ, pos, negsuc}
 use lib.ListN.{length, take, drop}
 use borrow.Author.Tests.{ltb-false, ltb-true}
@@ -14,6 +14,7 @@ use Rattle.wire.specs.Integers.{bigEndian}
 use Rattle.wire.specs.Signed as two's
 use Rattle.protocol.specs.Fields.{Field, place}
 use Rattle.protocol.specs.Kinds.{lengthWidth, Kind, unsigned, signed, string, specification, list, chunk, Row, end, _·_}
+use Rattle.protocol.proofs.Unlisted.{both as and-true}
 use Rattle.protocol.specs.declared.kind.Form.{Form}
 use Rattle.protocol.specs.declared.place.Place.{Place}
 use Rattle.rules.proofs.Gives.{Gives, after-number}
@@ -34,26 +35,33 @@ numbered-repeated {A} read h (suc n) s at = by (read s at) (h s at) (λ next. nu
     by (got a next) k more = more next
     by (refused m p) k more = k
 
-not-zero : (n : ℕ) → suc n ≡ 0 → ⊥
-not-zero n e = omega arith
+-- The numbers that a field can be refused with.
+abbrev pub FieldNumber : ℕ → Type 0
+FieldNumber n = (6 ≤ n) × (n ≤ 11)
+
+abbrev pub isFieldNumber : ℕ → Bool
+isFieldNumber n = leb 6 n && leb n 11
+
+pub named : (n : ℕ) → T (isFieldNumber n) → FieldNumber n
+named n t = let r = and-true (leb 6 n) (leb n 11) t in (leb→le 6 n (r .0), leb→le n 11 (r .1))
 
 module _ (s : List ℕ) where
   -- Reading that began at a place.
   abbrev pub Bounded : {A : Type 0} → ℕ → Outcome A → Type 0
   Bounded at (got a next) = (at ≤ next) × (at ≤ length s → next ≤ length s)
-  Bounded at (refused n p) = (n ≡ 0 → ⊥) × (at ≤ length s → p ≤ length s)
+  Bounded at (refused n p) = FieldNumber n × (at ≤ length s → p ≤ length s)
 
   pub numbered : {A : Type 0} (at : ℕ) (o : Outcome A) → Bounded at o → Numbered o
   numbered at (got a next) h = tt
-  numbered at (refused n p) h = h .0
+  numbered at (refused n p) h = λ e. omega (arith, h .0 .0, e)
 
-  check : {A : Type 0} (at : ℕ) (t : Bool) (n p : ℕ) (o : Outcome A) → (t ≡ true → at ≤ length s → p ≤ length s) → (t ≡ false → Bounded at o) → Bounded at (refuseIf t (suc n) p o)
-  check at true n p o g h = (not-zero n, g refl)
-  check at false n p o g h = h refl
+  check : {A : Type 0} (at : ℕ) (t : Bool) (n p : ℕ) (o : Outcome A) → T (isFieldNumber n) → (t ≡ true → at ≤ length s → p ≤ length s) → (t ≡ false → Bounded at o) → Bounded at (refuseIf t n p o)
+  check at true n p o f g h = (named n f, g refl)
+  check at false n p o f g h = h refl
 
   -- A check whose place is where reading began.
-  check-here : {A : Type 0} (at : ℕ) (t : Bool) (n : ℕ) (o : Outcome A) → (t ≡ false → Bounded at o) → Bounded at (refuseIf t (suc n) at o)
-  check-here at t n o h = check at t n at o (λ _ l. l) h
+  check-here : {A : Type 0} (at : ℕ) (t : Bool) (n : ℕ) (o : Outcome A) → T (isFieldNumber n) → (t ≡ false → Bounded at o) → Bounded at (refuseIf t n at o)
+  check-here at t n o f h = check at t n at o f (λ _ l. l) h
 
   -- What began later began here too.
   earlier : {A : Type 0} (at next : ℕ) (o : Outcome A) → at ≤ next → (at ≤ length s → next ≤ length s) → Bounded next o → Bounded at o
@@ -80,7 +88,7 @@ module _ (s : List ℕ) where
   pub bounded-number : (n at : ℕ) → Bounded at (readNumber n s at)
   unfolding readNumber
   bounded-number n at =
-      check-here at (ltb (length s) (at + n)) 5 (got (bigEndian n s at) (at + n)) (λ e. let l = ltb-false _ _ e in (omega arith, λ k. l))
+      check-here at (ltb (length s) (at + n)) 6 (got (bigEndian n s at) (at + n)) tt (λ e. let l = ltb-false _ _ e in (omega arith, λ k. l))
 
   -- A number and then more, whose refusals may be at the number.
   behind : {A : Type 0} (n at : ℕ) (f : ℕ → ℕ → Outcome A) → ((x next : ℕ) → at ≤ next → (at ≤ length s → next ≤ length s) → Bounded at (f x next)) → Bounded at (then (readNumber n s at) f)
@@ -93,12 +101,12 @@ module _ (s : List ℕ) where
   bounded-body : (form : Form) (nullable : Bool) (at : ℕ) (z : ℤ) (next : ℕ) → at ≤ next → (at ≤ length s → next ≤ length s) → Bounded at (readBody form nullable s at z next)
   unfolding readBody
   bounded-body form nullable at (pos n) next h i =
-      check-here at (tooLong form n) 8 _ (λ _.
-      check-here at (ltb (length s) (next + n)) 5 _ (λ e.
-      check-here at (not (isText form (take n (drop next s)))) 7 _ (λ _.
+      check-here at (tooLong form n) 9 _ tt (λ _.
+      check-here at (ltb (length s) (next + n)) 6 _ tt (λ e.
+      check-here at (not (isText form (take n (drop next s)))) 8 _ tt (λ _.
       let l = ltb-false _ _ e in (omega (arith, h), λ k. l))))
-  bounded-body form nullable at (negsuc zero) next h i = check-here at (not nullable) 6 _ (λ _. (h, i))
-  bounded-body form nullable at (negsuc (suc k)) next h i = (not-zero 6, λ l. l)
+  bounded-body form nullable at (negsuc zero) next h i = check-here at (not nullable) 7 _ tt (λ _. (h, i))
+  bounded-body form nullable at (negsuc (suc k)) next h i = (named 7 tt, λ l. l)
 
   bounded-offset : (at : ℕ) → Bounded at (readOffset s at)
   unfolding readOffset
@@ -111,16 +119,16 @@ module _ (s : List ℕ) where
   bounded-typed : (admitsNone : Bool) (at type next : ℕ) → at ≤ next → (at ≤ length s → next ≤ length s) → Bounded at (readTyped admitsNone s at type next)
   unfolding readTyped
   bounded-typed admitsNone at type next h i =
-      choice at (eqb type 0) _ _ (check-here at (not admitsNone) 9 _ (λ _. (h, i)))
+      choice at (eqb type 0) _ _ (check-here at (not admitsNone) 10 _ tt (λ _. (h, i)))
       (choice at (eqb type 1) _ _ (h, i)
       (choice at (eqb type 2) _ _ (h, i)
       (choice at (eqb type 3) _ _ (h, i)
       (choice at (eqb type 4) _ _ (earlier at next (readOffset s next) h i (bounded-offset next))
-      (choice at (eqb type 5) _ _ (earlier at next (readTimestamp s next) h i (bounded-timestamp next)) (not-zero 9, λ l. l))))))
+      (choice at (eqb type 5) _ _ (earlier at next (readTimestamp s next) h i (bounded-timestamp next)) (named 10 tt, λ l. l))))))
 
   bounded-sign : (at : ℕ) (z : ℤ) (next : ℕ) → at ≤ next → (at ≤ length s → next ≤ length s) → Bounded at (countOf at z next)
   bounded-sign at (pos n) next h i = (h, i)
-  bounded-sign at (negsuc k) next h i = (not-zero 6, λ l. l)
+  bounded-sign at (negsuc k) next h i = (named 7 tt, λ l. l)
 
   pub bounded-count : (at : ℕ) → Bounded at (readCount s at)
   unfolding readCount
@@ -136,27 +144,27 @@ module _ (s : List ℕ) where
   unfolding readEntry
   bounded-entry at =
       behind 4 at _ (λ x next h i.
-      check-here at (leb 0x8000_0000 x) 9 _ (λ _.
-      check-here at (ltb (length s) (next + x)) 5 (got (place next x) (next + x)) (λ e.
+      check-here at (leb 0x8000_0000 x) 10 _ tt (λ _.
+      check-here at (ltb (length s) (next + x)) 6 (got (place next x) (next + x)) tt (λ e.
       let l = ltb-false _ _ e in (omega (arith, h), λ k. l))))
 
   bounded-entries : (entries records at : ℕ) → at + 48 ≤ length s → Bounded at (readEntries entries records s at)
   unfolding readEntries
   bounded-entries entries records at l =
-      check at (not (eqb records entries)) 9 (at + 4) _ (λ _ _. omega (arith, l)) (λ _.
+      check at (not (eqb records entries)) 10 (at + 4) _ tt (λ _ _. omega (arith, l)) (λ _.
       from-48 (repeated readEntry entries s (at + 48)) (bounded-repeated readEntry bounded-entry entries (at + 48)))
     where
       from-48 : (o : Outcome Unit) → Bounded (at + 48) o → Bounded at (then o (λ _ last. refuseIf (ltb last (length s)) 11 last (got (tt {0}) last)))
       from-48 (got a last) k =
-          check at (ltb last (length s)) 10 last (got tt last) (λ _ _. k .1 l) (λ _. (omega (arith, k .0), λ j. k .1 l))
+          check at (ltb last (length s)) 11 last (got tt last) tt (λ _ _. k .1 l) (λ _. (omega (arith, k .0), λ j. k .1 l))
       from-48 (refused n p) k = (k .0, λ _. k .1 l)
 
   pub bounded-data : (type : ℤ) (entries records len at : ℕ) → at + 48 ≤ length s → Bounded at (readData type entries records len s at)
   unfolding readData
   bounded-data type entries records len at l =
-      check at (not (isChunkType type)) 9 (at + 1) _ (λ _ _. omega (arith, l)) (λ _.
-      check at (ltb (length s) (at + 48 + len)) 5 (at + 48) _ (λ _ _. l) (λ _.
-      check at (ltb (at + 48 + len) (length s)) 10 (at + 48 + len) _ (λ e _. less (ltb-true _ _ e)) (λ _.
+      check at (not (isChunkType type)) 10 (at + 1) _ tt (λ _ _. omega (arith, l)) (λ _.
+      check at (ltb (length s) (at + 48 + len)) 6 (at + 48) _ tt (λ _ _. l) (λ _.
+      check at (ltb (at + 48 + len) (length s)) 11 (at + 48 + len) _ tt (λ e _. less (ltb-true _ _ e)) (λ _.
       choice at (hasEntries type) (readEntries entries records s at) (got tt (length s)) (bounded-entries entries records at l) (omega (arith, l), λ k. omega arith))))
     where
       less : {a b : ℕ} → a < b → a ≤ b
@@ -165,14 +173,14 @@ module _ (s : List ℕ) where
   bounded-chunk : (at : ℕ) → Bounded at (readChunk s at)
   unfolding readChunk
   bounded-chunk at =
-      check-here at (ltb (length s) (at + 48)) 5 _ (λ e.
+      check-here at (ltb (length s) (at + 48)) 6 _ tt (λ e.
       both at (readData (headerAt s at .«chunk_type») (headerAt s at .entries) (headerAt s at .records) (headerAt s at .«data_length») s at) _ (bounded-data (headerAt s at .«chunk_type») (headerAt s at .entries) (headerAt s at .records) (headerAt s at .«data_length») at (ltb-false _ _ e)) (λ a last. stay last))
 
 mutual
   unfolding readField readRow readUnsigned readSigned readString readSpecification
 
   pub bounded-field : (k : Kind) (s : List ℕ) (at : ℕ) → Bounded s at (readField k s at)
-  bounded-field (unsigned n most) s at = behind s n at _ (λ x next h i. check-here s at (ltb most x) 9 _ (λ _. (h, i)))
+  bounded-field (unsigned n most) s at = behind s n at _ (λ x next h i. check-here s at (ltb most x) 10 _ tt (λ _. (h, i)))
   bounded-field (signed n) s at = behind s n at _ (λ x next h i. (h, i))
   bounded-field (string form nullable) s at = behind s (lengthWidth form) at _ (λ x next h i. bounded-body s form nullable at (two's.signed (lengthWidth form) x) next h i)
   bounded-field (specification admitsNone) s at = behind s 2 at _ (λ type next h i. bounded-typed s admitsNone at type next h i)
@@ -189,7 +197,7 @@ pub bounded-content : (row : Row) (s : List ℕ) → Bounded s 0 (readContent ro
 unfolding readContent
 bounded-content row s =
     both s 0 (readRow row s 0) _ (bounded-row row s 0)
-    (λ fs last. check-here s last (ltb last (length s)) 10 (got fs last) (λ _. stay s last))
+    (λ fs last. check-here s last (ltb last (length s)) 11 (got fs last) tt (λ _. stay s last))
 
 pub numbered-field : (k : Kind) (s : List ℕ) (at : ℕ) → Numbered (readField k s at)
 numbered-field k s at = numbered s at (readField k s at) (bounded-field k s at)

@@ -18,3 +18,4 @@ pub mod WriteField
 pub mod ReadWrite
 pub mod WriteRead
 pub mod Demand2
+pub mod RefusalNumbers

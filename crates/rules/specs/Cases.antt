@@ -1,13 +1,15 @@
--- The marked cases A to L (01 "Frames and calls on either side"), under frame limit 0. Each refusal also has its place.
+-- The marked cases A to L (01 "Frames and calls on either side"), under frame limit 0. Each refusal but 1 also has its place.
 use mathlib.Core.Path.{_≡_}
 use mathlib.Core.List.{List, [], _∷_}
+use mathlib.Core.Option.{some}
 use Prim.Native.Nat.{ℕ}
 use Rattle.protocol.specs.Fields.{place}
 use Rattle.protocol.specs.Frames.{fieldsOf}
 use Rattle.protocol.specs.Refusals.{frameTooSmall, unknownKey, unknownVersion, fieldCut, badLength, notUtf8, bytesLeft}
 use Rattle.protocol.specs.ResponseCodes.{codeOf}
 use Rattle.protocol.specs.declared.frame.Frame.the-variants.{Heartbeat, Credit, CreditResponse, Delete}
-use Rattle.rules.specs.Reading.{Reading, frame, short, refusal, readFrame}
+use Rattle.rules.specs.Answers.{readingRefusal}
+use Rattle.rules.specs.Reading.{Reading, frame, refusal, readFrame}
 
 abbrev read : List ℕ → Reading
 read s = readFrame s 0
@@ -24,4 +26,4 @@ pub record Cases : Type 0 where
   pub I : read (0x00 ∷ 0x00 ∷ 0x00 ∷ 0x0a ∷ 0x00 ∷ 0x0e ∷ 0x00 ∷ 0x01 ∷ 0x00 ∷ 0x00 ∷ 0x00 ∷ 0x01 ∷ 0x00 ∷ 0x00 ∷ []) ≡ frame (fieldsOf (Delete 1 (place 14 0)))
   pub J : read (0x00 ∷ 0x00 ∷ 0x00 ∷ 0x0a ∷ 0x00 ∷ 0x0e ∷ 0x00 ∷ 0x01 ∷ 0x00 ∷ 0x00 ∷ 0x00 ∷ 0x01 ∷ 0xff ∷ 0xff ∷ []) ≡ refusal badLength 12
   pub K : read (0x00 ∷ 0x00 ∷ 0x00 ∷ 0x0b ∷ 0x00 ∷ 0x0e ∷ 0x00 ∷ 0x01 ∷ 0x00 ∷ 0x00 ∷ 0x00 ∷ 0x01 ∷ 0x00 ∷ 0x01 ∷ 0xc0 ∷ []) ≡ refusal notUtf8 12
-  pub L : read (0x00 ∷ 0x00 ∷ 0x00 ∷ []) ≡ short 4
+  pub L : readingRefusal (read (0x00 ∷ 0x00 ∷ 0x00 ∷ [])) ≡ some (record { number = 1; needed = some 4 })

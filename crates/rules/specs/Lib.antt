@@ -6,4 +6,5 @@ pub mod Exactness
 pub mod Writing
 pub mod RoundTrips
 pub mod Demand2
+pub mod Answers
 pub mod Cases
