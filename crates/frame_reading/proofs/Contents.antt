@@ -14,7 +14,7 @@ use Rattle.protocol.specs.Table.{table, rowOf}
 use Rattle.protocol.specs.declared.place.Place.{Place}
 use Rattle.rules.specs.Outcome.{Outcome, got, refused}
 use Rattle.rules.specs.Reading.{Reading, frame, refusal, readRow, readContent, readLayout}
-use Rattle.rules.proofs.Bounds.{Bounded, bounded-row}
+use Rattle.rules.proofs.Bounds.{Bounded, numbered, bounded-row}
 use Rattle.rules.proofs.Listed.{row-passes}
 use Rattle.fields.specs.Cursor.{landed}
 use Rattle.fields.specs.declared.cursor.Cursor.{Cursor}
@@ -69,7 +69,7 @@ module _ (k v : ℕ) (s : List ℕ) (row : Row) (is-row : row ≡ rowOf k v) (c 
       by (got fs next) i b e =
           let m : next < length s = rw e at l in
           rw (← is-row, i, e, lt-ltb next (length s) m)
-      by (refused n p) i b e = absurd (b .0 (sym (ap (λ (x : Cursor). x .refused) e) ∙ z))
+      by (refused n p) i b e = absurd (numbered s {A = List (Field Place)} 0 (refused n p) b (sym (ap (λ (x : Cursor). x .refused) e) ∙ z))
 
   pub content-read : c .refused ≡ 0 → length s ≤ c .at → (old new : List ℕ) → (2 + slotsIn row ≤ 24 → Filled row (readRow row s 0) (padded 24 (k ∷ v ∷ [])) new) → Answers (readLayout k v s) old Frame new
   unfolding readLayout readContent flatFrame
@@ -85,4 +85,4 @@ module _ (k v : ℕ) (s : List ℕ) (row : Row) (is-row : row ≡ rowOf k v) (c 
           let read : frame (record { key = k; version = v; content = gs }) ≡ readLayout k v s = rw (← is-row, j, le-ltb next (length s) m) in
           let fits : 2 + length (flatRow row gs) ≤ 24 = omega (arith, room, row-slots row gs) in
           answered _ _ old Frame new read (refl, f ∙ splice-padded 24 (k ∷ v ∷ []) (flatRow row gs) fits ∙ ap (λ (r : Row). padded 24 (k ∷ v ∷ flatRow r gs)) is-row)
-      by (refused n q) j b e f = absurd (b .0 (sym (ap (λ (x : Cursor). x .refused) e) ∙ z))
+      by (refused n q) j b e f = absurd (numbered s {A = List (Field Place)} 0 (refused n q) b (sym (ap (λ (x : Cursor). x .refused) e) ∙ z))

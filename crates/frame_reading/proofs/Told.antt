@@ -1,13 +1,15 @@
 -- Each answer of reading into slots is told of one kind of reading only. Assumes nothing.
-use mathlib.Core.Path.{_≡_, refl}
+use mathlib.Core.Path.{_≡_, refl, ap, _∙_}
 use mathlib.Core.List.{List}
 use Prim.Native.Nat.{ℕ}
 use native.Mathlib.Omega.{arith}
 use Rattle.protocol.specs.Fields.{Fields}
 use Rattle.protocol.specs.declared.place.Place.{Place}
+use Rattle.rules.specs.Answers.{readingRefusal}
 use Rattle.rules.specs.Reading.{Reading, frame, short, refusal}
 use Rattle.flat.specs.Flat.{flatFrame, slotsAfter}
-use Rattle.frame_reading.specs.Answer.{told}
+use Rattle.frame_reading.specs.Answer.{told, refusalOf}
+use Rattle.frame_reading.specs.declared.reading.FrameRead.{FrameRead}
 use Rattle.frame_reading.specs.declared.reading.FrameRead.the-variants.{Frame, Short, Refused}
 
 pub short-told : (r : Reading) (n : ℕ) → Short n ≡ told r → short n ≡ r
@@ -28,3 +30,12 @@ frame-told (refusal m p) e = absurd (let o : _≡_ {A = ℕ} 0 1 = cc in omega a
 -- The slots of a frame that was read.
 pub slots-told : (f : Fields Place) (r : Reading) (old new : List ℕ) → frame f ≡ r → new ≡ slotsAfter old r → new ≡ flatFrame f
 slots-told f r old new e h = rw (← e) at h
+
+-- An answer is the refusal that reading is.
+pub refused-as-read : (r : FrameRead) (x : Reading) → r ≡ told x → refusalOf r ≡ readingRefusal x
+refused-as-read r x e = ap refusalOf e ∙ by x
+  where
+    by : (x : Reading) → refusalOf (told x) ≡ readingRefusal x
+    by (frame f) = refl
+    by (short n) = refl
+    by (refusal n place) = refl

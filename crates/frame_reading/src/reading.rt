@@ -4,9 +4,10 @@ ghost use Prim.Native.Nat.{_<_};
 ghost use Rattle.protocol.specs.Decision.{decide};
 ghost use Rattle.protocol.specs.Layouts.{rowFrom};
 ghost use Rattle.protocol.specs.Table.{rowOf};
+ghost use Rattle.rules.specs.Answers.{readingRefusal};
 ghost use Rattle.rules.specs.Reading.{readFrame, readDecided, readLayout, readSized};
 ghost use Rattle.flat.specs.Flat.{slotsAfter};
-ghost use Rattle.frame_reading.specs.Answer.{told};
+ghost use Rattle.frame_reading.specs.Answer.{told, refusalOf};
 use field_slots::read_fields;
 use fields::Cursor;
 use fields::over_limit;
@@ -30,6 +31,7 @@ pub enum FrameRead {
 pub fn read(bytes: &[u8], limit: u32, slots: &mut [u64; 24]) -> FrameRead
     ensures { λ r. ⌜ r ≡ told (readFrame (now (bytes .entry)) limit) ⌝ }
     ensures { λ _. ⌜ now (slots .exit) ≡ slotsAfter (now (slots .entry)) (readFrame (now (bytes .entry)) limit) ⌝ }
+    ensures { λ r. ⌜ refusalOf r ≡ readingRefusal (readFrame (now (bytes .entry)) limit) ⌝ }
 {
     if fast_reading::read(bytes, limit, slots) {
         return FrameRead::Frame;
