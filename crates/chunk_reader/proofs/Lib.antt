@@ -2,3 +2,4 @@
 pub mod Spots
 pub mod Runs
 pub mod Held
+pub mod SlotCalls

@@ -2,3 +2,4 @@
 pub mod Messages
 pub mod Reader
 pub mod Run
+pub mod Slots

@@ -1,0 +1,49 @@
+// The reader as a host that is written in C holds it: four slots. Slot 0 is where the next entry begins, slot 1 how many
+// entries are left; the last two are kept for later use.
+ghost use mathlib.Core.Path.{_≡_};
+ghost use Rattle.chunk_reader.specs.Slots.{openNumber, readerOpened, nextFound, readerAfter, entryAfter};
+use crate::spot::Found;
+use crate::spot::Spot;
+use crate::spot::advance;
+use crate::spot::start;
+use flat::place_slots;
+
+// At the first entry of a chunk, whose bytes are checked as the rest of a Deliver is: the check's number, or 0.
+pub fn open_chunk(chunk: &[u8], reader: &mut [u64; 4]) -> u8
+    ensures { λ r. ⌜ r ≡ openNumber (now (chunk .entry)) ⌝ }
+    ensures { λ _. ⌜ now (reader .exit) ≡ readerOpened (now (chunk .entry)) (now (reader .entry)) ⌝ }
+{
+    let first = start(chunk);
+    let found = first.found;
+    let left = first.left;
+    if let Found::Refused(number) = found {
+        return number;
+    }
+    *reader = [48, left as u64, 0, 0];
+    0
+}
+
+// The next entry, and the reader past it. At the end and on a refusal nothing is changed.
+pub fn next_entry(chunk: &[u8], reader: &mut [u64; 4], entry: &mut [u64; 8]) -> Found
+    ensures { λ r. ⌜ r ≡ nextFound (now (chunk .entry)) (now (reader .entry)) ⌝ }
+    ensures { λ _. ⌜ now (reader .exit) ≡ readerAfter (now (chunk .entry)) (now (reader .entry)) ⌝ }
+    ensures { λ _. ⌜ now (entry .exit) ≡ entryAfter (now (chunk .entry)) (now (reader .entry)) (now (entry .entry)) ⌝ }
+{
+    let next = advance(
+        chunk,
+        Spot {
+            at: reader[0] as usize,
+            left: reader[1] as usize,
+            found: Found::Ready,
+        },
+    );
+    let at = next.at;
+    let left = next.left;
+    let found = next.found;
+    if let Found::Message(place) = found {
+        reader[0] = at as u64;
+        reader[1] = left as u64;
+        *entry = place_slots(place);
+    }
+    found
+}
