@@ -3,3 +3,4 @@ pub mod Spots
 pub mod Runs
 pub mod Held
 pub mod SlotCalls
+pub mod SlotRuns

@@ -3,7 +3,7 @@ use mathlib.Core.Path.{_≡_, refl, sym, _∙_, ap, subst}
 use mathlib.Core.List.{List, [], _∷_}
 use Prim.Native.Nat.{ℕ}
 use native.Mathlib.Omega.{arith}
-use lib.ListN.{getD, set}
+use lib.ListN.{getD}
 use types.Run.{OneOf, miss}
 use denote.Enum.Declared.{tagOf}
 use Rattle.protocol.specs.Fields.{Field}
@@ -13,7 +13,7 @@ use Rattle.rules.specs.Outcome.{Outcome, got, refused}
 use Rattle.rules.specs.Reading.{readChunk}
 use Rattle.flat.specs.Flat.{flatPlace, padded}
 use Rattle.chunk_reader.specs.Reader.{spot, startedFrom, started, advanced}
-use Rattle.chunk_reader.specs.Slots.{openNumber, openedFrom, readerOpened, nextSpot, filledIf, readerMoved, entryFilled}
+use Rattle.chunk_reader.specs.Slots.{openNumber, openedFrom, readerOpened, nextSpot, filledIf, movedTo, readerMoved, entryFilled}
 use Rattle.chunk_reader.specs.declared.spot.Found.{Found}
 use Rattle.chunk_reader.specs.declared.spot.Found.the-variants.{Ready, Message, Done, Refused}
 use Rattle.chunk_reader.specs.declared.spot.Spot.{Spot}
@@ -49,15 +49,15 @@ module _ (s r entry : List ℕ) (p : Spot) (e : p ≡ advanced s (spot (getD r 0
   unfolding nextSpot
   as-told f reader new a = subst (Answers f reader new) e a
 
-  pub next-message : (m : Place) (new : List ℕ) → p .found ≡ Message m → new ≡ padded 8 (flatPlace m) → Answers (Message m) (set (set r 0 (p .at)) 1 (p .left)) new (nextSpot s r)
+  pub next-message : (m : Place) (new : List ℕ) → p .found ≡ Message m → new ≡ padded 8 (flatPlace m) → Answers (Message m) (movedTo p r) new (nextSpot s r)
   next-message m new f g =
-      as-told (Message m) (set (set r 0 (p .at)) 1 (p .left)) new
-      (sym f, (ap (λ (x : Found). filledIf x r (λ _. set (set r 0 (p .at)) 1 (p .left))) (sym f), g ∙ ap (entryFilled entry) (sym f)))
+      as-told (Message m) (movedTo p r) new
+      (sym f, (ap (λ (x : Found). filledIf x r (λ _. movedTo p r)) (sym f), g ∙ ap (entryFilled entry) (sym f)))
 
   pub next-none : OneOf (0 ∷ 2 ∷ 3 ∷ []) (tagOf the-type (p .found)) → Answers (p .found) r entry (nextSpot s r)
   next-none k = as-told (p .found) r entry (refl, by (p .found) k)
     where
-      by : (f : Found) → OneOf (0 ∷ 2 ∷ 3 ∷ []) (tagOf the-type f) → (r ≡ filledIf f r (λ _. set (set r 0 (p .at)) 1 (p .left))) × (entry ≡ entryFilled entry f)
+      by : (f : Found) → OneOf (0 ∷ 2 ∷ 3 ∷ []) (tagOf the-type f) → (r ≡ filledIf f r (λ _. movedTo p r)) × (entry ≡ entryFilled entry f)
       by Ready h = (refl, refl)
       by (Message m) h = absurd (miss (0 ∷ 2 ∷ 3 ∷ []) 1 tt h)
       by Done h = (refl, refl)

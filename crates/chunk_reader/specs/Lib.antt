@@ -3,3 +3,4 @@ pub mod Messages
 pub mod Reader
 pub mod Run
 pub mod Slots
+pub mod SlotRun

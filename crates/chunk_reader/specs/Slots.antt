@@ -45,8 +45,11 @@ filledIf Done old new = old
 filledIf (Refused n) old new = old
 
 -- The reader's slots then: past the entry, with one entry fewer left. The last two stay.
+abbrev pub movedTo : Spot → List ℕ → List ℕ
+movedTo p old = set (set old 0 (p .at)) 1 (p .left)
+
 abbrev pub readerMoved : List ℕ → Spot → List ℕ
-readerMoved old p = filledIf (p .found) old (λ m. set (set old 0 (p .at)) 1 (p .left))
+readerMoved old p = filledIf (p .found) old (λ m. movedTo p old)
 
 abbrev pub readerAfter : List ℕ → List ℕ → List ℕ
 readerAfter s reader = readerMoved reader (nextSpot s reader)

@@ -29,20 +29,22 @@ pub fn next_entry(chunk: &[u8], reader: &mut [u64; 4], entry: &mut [u64; 8]) -> 
     ensures { λ _. ⌜ now (reader .exit) ≡ readerAfter (now (chunk .entry)) (now (reader .entry)) ⌝ }
     ensures { λ _. ⌜ now (entry .exit) ≡ entryAfter (now (chunk .entry)) (now (reader .entry)) (now (entry .entry)) ⌝ }
 {
+    let at = reader[0] as usize;
+    let left = reader[1] as usize;
     let next = advance(
         chunk,
         Spot {
-            at: reader[0] as usize,
-            left: reader[1] as usize,
+            at: at,
+            left: left,
             found: Found::Ready,
         },
     );
-    let at = next.at;
-    let left = next.left;
+    let behind = next.at;
+    let rest = next.left;
     let found = next.found;
     if let Found::Message(place) = found {
-        reader[0] = at as u64;
-        reader[1] = left as u64;
+        reader[0] = behind as u64;
+        reader[1] = rest as u64;
         *entry = place_slots(place);
     }
     found
