@@ -8,7 +8,8 @@ use crate::spot::advance;
 use crate::spot::start;
 use flat::place_slots;
 
-// At the first entry of a chunk, whose bytes are checked as the rest of a Deliver is: the check's number, or 0.
+// Puts the reader at a chunk's first entry. The bytes are checked as the rest of a Deliver is; the answer is the number of
+// the check that refuses them, or 0.
 pub fn open_chunk(chunk: &[u8], reader: &mut [u64; 4]) -> u8
     ensures { λ r. ⌜ r ≡ openNumber (now (chunk .entry)) ⌝ }
     ensures { λ _. ⌜ now (reader .exit) ≡ readerOpened (now (chunk .entry)) (now (reader .entry)) ⌝ }
@@ -23,7 +24,8 @@ pub fn open_chunk(chunk: &[u8], reader: &mut [u64; 4]) -> u8
     0
 }
 
-// The next entry, and the reader past it. At the end and on a refusal nothing is changed.
+// Fills the entry's slots with the next entry, and moves the reader past it. At the end and on a refusal nothing is
+// changed. Slots that the host made up are read like any others.
 pub fn next_entry(chunk: &[u8], reader: &mut [u64; 4], entry: &mut [u64; 8]) -> Found
     ensures { λ r. ⌜ r ≡ nextFound (now (chunk .entry)) (now (reader .entry)) ⌝ }
     ensures { λ _. ⌜ now (reader .exit) ≡ readerAfter (now (chunk .entry)) (now (reader .entry)) ⌝ }
@@ -39,12 +41,12 @@ pub fn next_entry(chunk: &[u8], reader: &mut [u64; 4], entry: &mut [u64; 8]) -> 
             found: Found::Ready,
         },
     );
-    let behind = next.at;
-    let rest = next.left;
+    let next_at = next.at;
+    let next_left = next.left;
     let found = next.found;
     if let Found::Message(place) = found {
-        reader[0] = behind as u64;
-        reader[1] = rest as u64;
+        reader[0] = next_at as u64;
+        reader[1] = next_left as u64;
         *entry = place_slots(place);
     }
     found
