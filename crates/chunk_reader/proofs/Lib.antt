@@ -4,3 +4,4 @@ pub mod Runs
 pub mod Held
 pub mod SlotCalls
 pub mod SlotRuns
+pub mod Delivers

@@ -20,12 +20,11 @@ use Rattle.rules.specs.Reading.{headerAt, readEntry, readChunk, readField}
 use Rattle.rules.proofs.Bounds.{Numbered, numbered-entry, numbered-field}
 use Rattle.rules.proofs.Gives.{Gives, check, after-number}
 use Rattle.flat.specs.Flat.{flatPlace, padded}
-use Rattle.chunk_reader.specs.Messages.{withNext, messagesAt, messageCount, messagesOf}
+use Rattle.chunk_reader.specs.Messages.{withNext, messagesAt, messageCount}
 use Rattle.chunk_reader.specs.Reader.{spot, behindEntry, advanced}
 use Rattle.chunk_reader.specs.Run.{Good, WellFormed}
-use Rattle.chunk_reader.specs.SlotRun.{Lent, lent, askedOnce, askedTimes, Answers, atFirst, messageNo, SlotRun}
+use Rattle.chunk_reader.specs.SlotRun.{Lent, lent, askedOnce, askedTimes, Answers, atFirst, SlotRun}
 use Rattle.chunk_reader.specs.Slots.{openNumber, openedFrom, readerOpened, nextSpot, readerMoved, entryFilled}
-use Rattle.chunk_reader.specs.declared.spot.Found.{Found}
 use Rattle.chunk_reader.specs.declared.spot.Found.the-variants.{Ready, Message, Done, Refused}
 use Rattle.chunk_reader.specs.declared.spot.Spot.{Spot}
 use Rattle.chunk_reader.proofs.Runs.{chunk-good, as-many, entry-inside, not-zero}

@@ -3,12 +3,13 @@ use mathlib.Core.Path.{_≡_}
 use mathlib.Core.Bool.{false}
 use mathlib.Core.List.{List, [], _∷_}
 use Prim.Native.Nat.{ℕ, zero, suc, _+_, _-_, _≤_, _<_}
-use lib.ListN.{length, getD}
-use Rattle.protocol.specs.Fields.{place, outside}
+use lib.ListN.{length, getD, take, drop}
+use Rattle.wire.specs.Integers.{Bytes}
+use Rattle.protocol.specs.Fields.{Fields, place, outside}
 use Rattle.protocol.specs.declared.place.Place.{Place}
 use Rattle.rules.specs.Outcome.{got, refused}
-use Rattle.rules.specs.Reading.{readEntry, readChunk}
-use Rattle.flat.specs.Flat.{flatPlace, padded}
+use Rattle.rules.specs.Reading.{readEntry, readChunk, frame, readFrame}
+use Rattle.flat.specs.Flat.{flatPlace, padded, flatFrame}
 use Rattle.chunk_reader.specs.Messages.{messagesOf}
 use Rattle.chunk_reader.specs.Run.{WellFormed}
 use Rattle.chunk_reader.specs.Slots.{openNumber, readerOpened, nextFound, readerAfter, entryAfter}
@@ -59,3 +60,16 @@ pub record SlotRun (s : List ℕ) : Type 0 where
   pub entryThere : (at left x y : ℕ) (e : List ℕ) (m : Place) (next : ℕ) → readEntry s at ≡ got m next → Answers s (lent (at ∷ suc left ∷ x ∷ y ∷ []) e) (Message m) (lent (next ∷ left ∷ x ∷ y ∷ []) (padded 8 (flatPlace m))) × (outside m s ≡ false)
   -- or a refusal, whose number is not 0.
   pub entryRefused : (at left x y : ℕ) (e : List ℕ) (number p : ℕ) → readEntry s at ≡ refused number p → Answers s (lent (at ∷ suc left ∷ x ∷ y ∷ []) e) (Refused number) (lent (at ∷ suc left ∷ x ∷ y ∷ []) e) × (number ≡ 0 → ⊥)
+
+-- Where a flat Deliver says that its chunk's data stands, from the slot i on: the 48 bytes of the header stand before the
+-- data, the data lies in the bytes, and the two together are one well-formed chunk.
+pub record ChunkThere (s slots : List ℕ) (i : ℕ) : Type 0 where
+  pub header : 48 ≤ getD slots i 0
+  pub inside : getD slots i 0 + getD slots (i + 1) 0 ≤ length s
+  pub whole : WellFormed (take (48 + getD slots (i + 1) 0) (drop (getD slots i 0 - 48) s))
+
+-- So the chunk of every Deliver that was read is opened.
+abbrev pub ChunkOfADeliver : Type 0
+ChunkOfADeliver =
+    (s : List ℕ) (limit : ℕ) (f : Fields Place) → Bytes s → readFrame s limit ≡ frame f → f .key ≡ 0x0008
+    → (f .version ≡ 1 → ChunkThere s (flatFrame f) 15) × (f .version ≡ 2 → ChunkThere s (flatFrame f) 16)
