@@ -134,7 +134,7 @@ module _ (c : List ℕ) (b : Bytes c) where
       (after-unsigned 8 _ 1 (K.chunk · end) _ (Last 9) (chunk-last 9) (λ y fs last h l. (y, further-front 9 [] fs y (h l))))
       (λ x fs last h l. let e = h l in (x, e .0, further-front 9 (e .0 ∷ []) fs x (e .1))))
 
--- A content of m bytes behind the first eight of a frame.
+-- A content of m bytes after the first eight of a frame.
 module _ (s : List ℕ) (m : ℕ) (w : 8 + m ≤ length s) where
   abbrev content : List ℕ
   content = take m (drop 8 s)

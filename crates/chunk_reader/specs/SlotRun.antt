@@ -36,28 +36,35 @@ askedTimes (suc n) s l = askedOnce s (askedTimes n s l)
 abbrev pub Answers : List ℕ → Lent → Found → Lent → Type 0
 Answers s l found left = (nextFound s (l .reader) ≡ found) × (askedOnce s l ≡ left)
 
--- A reader of the chunk s at its first entry, with any numbers in the last two slots.
-abbrev pub atFirst : List ℕ → ℕ → ℕ → List ℕ
-atFirst s x y = 48 ∷ length (messagesOf s) ∷ x ∷ y ∷ []
-
 -- Message n of the chunk s.
 abbrev pub messageNo : List ℕ → ℕ → Place
 messageNo s n = getD (messagesOf s) n (place 0 0)
 
+-- The reader of a chunk at its first entry, with all messages left. The last two slots hold x and y, whatever they are.
+abbrev pub atFirst : List ℕ → ℕ → ℕ → List ℕ
+atFirst s x y = 48 ∷ length (messagesOf s) ∷ x ∷ y ∷ []
+
+-- The reader when message n was given: it stands where that message ends.
+abbrev pub pastMessage : List ℕ → ℕ → ℕ → ℕ → List ℕ
+pastMessage s n x y = (messageNo s n .at + messageNo s n .len) ∷ (length (messagesOf s) - suc n) ∷ x ∷ y ∷ []
+
+-- The slots of an entry: the place and the length of its message, then 0.
+abbrev pub entrySlots : Place → List ℕ
+entrySlots m = padded 8 (flatPlace m)
+
 pub record SlotRun (s : List ℕ) : Type 0 where
   -- Bytes that are not one well-formed chunk are refused with the check's number, which is not 0, and the slots stay.
   pub refuses : (number at : ℕ) (old : List ℕ) → readChunk s 0 ≡ refused number at → (openNumber s ≡ number) × ((number ≡ 0 → ⊥) × (readerOpened s old ≡ old))
-  -- A well-formed chunk is opened, with all its messages left.
+  -- A well-formed chunk is opened.
   pub opens : WellFormed s → (old : List ℕ) → (openNumber s ≡ 0) × (readerOpened s old ≡ atFirst s 0 0)
-  -- Question n + 1 then gives message n, so that each is given once and in order. The reader stands where that message
-  -- ends, with one entry fewer left, and its last two slots as they were.
-  pub gives : WellFormed s → (x y : ℕ) (e : List ℕ) (n : ℕ) → n < length (messagesOf s) → Answers s (askedTimes n s (lent (atFirst s x y) e)) (Message (messageNo s n)) (lent ((messageNo s n .at + messageNo s n .len) ∷ (length (messagesOf s) - suc n) ∷ x ∷ y ∷ []) (padded 8 (flatPlace (messageNo s n))))
+  -- Question n + 1 then gives message n, so that each is given once and in order.
+  pub gives : WellFormed s → (x y : ℕ) (e : List ℕ) (n : ℕ) → n < length (messagesOf s) → Answers s (askedTimes n s (lent (atFirst s x y) e)) (Message (messageNo s n)) (lent (pastMessage s n x y) (entrySlots (messageNo s n)))
   -- After the last one it is done, for ever, and nothing changes any more.
   pub done : WellFormed s → (x y : ℕ) (e : List ℕ) (n : ℕ) → length (messagesOf s) ≤ n → Answers s (askedTimes n s (lent (atFirst s x y) e)) Done (askedTimes n s (lent (atFirst s x y) e))
-  -- Any bytes and any reader, also one that the host made up. With no entries left it is done, whatever its place.
+  -- Any bytes and any reader, also one that the host made up: with no entries left it is done, whatever its place;
   pub nothingLeft : (at x y : ℕ) (e : List ℕ) → Answers s (lent (at ∷ 0 ∷ x ∷ y ∷ []) e) Done (lent (at ∷ 0 ∷ x ∷ y ∷ []) e)
-  -- Else it gives what the entry at its place gives: a message, which lies in the bytes,
-  pub entryThere : (at left x y : ℕ) (e : List ℕ) (m : Place) (next : ℕ) → readEntry s at ≡ got m next → Answers s (lent (at ∷ suc left ∷ x ∷ y ∷ []) e) (Message m) (lent (next ∷ left ∷ x ∷ y ∷ []) (padded 8 (flatPlace m))) × (outside m s ≡ false)
+  -- else it gives what the entry at its place gives: a message, which lies in the bytes,
+  pub entryThere : (at left x y : ℕ) (e : List ℕ) (m : Place) (next : ℕ) → readEntry s at ≡ got m next → Answers s (lent (at ∷ suc left ∷ x ∷ y ∷ []) e) (Message m) (lent (next ∷ left ∷ x ∷ y ∷ []) (entrySlots m)) × (outside m s ≡ false)
   -- or a refusal, whose number is not 0.
   pub entryRefused : (at left x y : ℕ) (e : List ℕ) (number p : ℕ) → readEntry s at ≡ refused number p → Answers s (lent (at ∷ suc left ∷ x ∷ y ∷ []) e) (Refused number) (lent (at ∷ suc left ∷ x ∷ y ∷ []) e) × (number ≡ 0 → ⊥)
 
