@@ -149,11 +149,11 @@ uint64_t krevilosh_chunk_open(const uint8_t *chunk, size_t len, uint64_t reader[
 /*
  * The next entry: entry[0] is the place of its message, counted from the chunk's first byte, entry[1] its length; the
  * other slots are 0. The chunk is the one that the reader was opened with.
- *   KREVILOSH_NUMBER 1   an entry, and the reader has moved past it
- *   the answer 0         the end: no entries are left; reader and entry stay as they were, now and at each later call
+ *   1 above the refusal number   an entry, and the reader has moved past it
+ *   0 above it                   the end: no entries are left, and reader and entry stay as they were
  * Of a chunk that was opened no entry is refused. A reader that the host filled itself, or bytes that were changed, get an
- * answer too: the end where no entries are left, whatever the place; else what the entry at the place gives, which is also
- * one of these refusals.
+ * answer too: the end where no entries are left, whatever the place, else what the entry at the place gives. A message
+ * that is given always lies in the chunk.
  * Refusals: 6 for an entry of which not four bytes are there, 10 if its top bit is 1, 6 for a message that is cut.
  */
 uint64_t krevilosh_chunk_next(const uint8_t *chunk, size_t len, uint64_t reader[4], uint64_t entry[8]);
