@@ -61,8 +61,9 @@ static void frames(void) {
 // The walk of the header's example, over the Deliver's chunk and over bytes that are none.
 static void chunks(void) {
     uint64_t frame[24], reader[KREVILOSH_READER_SLOTS] = {1, 2, 3, 4}, entry[8] = {5, 6, 7, 8};
-    expect("its chunk cut", krevilosh_chunk_open(deliver, 47, reader) == 6 && krevilosh_chunk_open(NULL, 0, reader) == 6);
-    expect("leaves the reader", reader[0] == 1 && reader[1] == 2 && reader[2] == 3 && reader[3] == 4);
+    expect("no chunk in no bytes", krevilosh_chunk_open(NULL, 0, reader) == 6);
+    expect("nor in half a header", krevilosh_chunk_open(deliver, 47, reader) == 6);
+    expect("and the reader stays", reader[0] == 1 && reader[1] == 2 && reader[2] == 3 && reader[3] == 4);
     expect("a Deliver is read", krevilosh_read(deliver, sizeof deliver, 0, frame) == 0);
     const uint8_t *chunk = deliver + frame[15] - 48;
     size_t len = 48 + frame[16];
