@@ -19,11 +19,11 @@ use Rattle.rules.specs.Outcome.{Outcome, got, refused, then, repeated}
 use Rattle.rules.specs.Reading.{headerAt, readEntry, readChunk, readField}
 use Rattle.rules.proofs.Bounds.{Numbered, numbered-entry, numbered-field}
 use Rattle.rules.proofs.Gives.{Gives, check, after-number}
-use Rattle.flat.specs.Flat.{flatPlace, padded}
+use Rattle.flat.specs.Flat.{padded}
 use Rattle.chunk_reader.specs.Messages.{withNext, messagesAt, messageCount}
 use Rattle.chunk_reader.specs.Reader.{spot, behindEntry, advanced}
 use Rattle.chunk_reader.specs.Run.{Good, WellFormed}
-use Rattle.chunk_reader.specs.SlotRun.{Lent, lent, askedOnce, askedTimes, Answers, atFirst, SlotRun}
+use Rattle.chunk_reader.specs.SlotRun.{Lent, lent, askedOnce, askedTimes, Answers, atFirst, entrySlots, SlotRun}
 use Rattle.chunk_reader.specs.Slots.{openNumber, openedFrom, readerOpened, nextSpot, readerMoved, entryFilled}
 use Rattle.chunk_reader.specs.declared.spot.Found.the-variants.{Ready, Message, Done, Refused}
 use Rattle.chunk_reader.specs.declared.spot.Spot.{Spot}
@@ -60,7 +60,8 @@ module _ (s : List ℕ) where
     unfolding nextSpot advanced
     to-entry o h = rw (ne-eqb (suc left) 0 (not-zero left), h)
 
-    entry-there : (m : Place) (next : ℕ) → readEntry s at ≡ got m next → Answers s before (Message m) (lent (next ∷ left ∷ x ∷ y ∷ []) (padded 8 (flatPlace m)))
+    entry-there : (m : Place) (next : ℕ) → readEntry s at ≡ got m next → Answers s before (Message m) (lent (next ∷ left ∷ x ∷ y ∷ []) (entrySlots m))
+    unfolding padded
     entry-there m next h =
         let f : suc left - 1 ≡ left = omega arith in
         by-spot before (spot next left (Message m)) (to-entry (got m next) h ∙ ap (λ (n : ℕ). spot next n (Message m)) f)
@@ -82,7 +83,7 @@ module _ (s : List ℕ) where
     from n at e = lent (at ∷ n ∷ x ∷ y ∷ []) e
 
     abbrev GivesMessage : Lent → ℕ → ℕ → Place → Type 0
-    GivesMessage l n k m = Answers s (askedTimes k s l) (Message m) (lent ((m .at + m .len) ∷ (n - suc k) ∷ x ∷ y ∷ []) (padded 8 (flatPlace m)))
+    GivesMessage l n k m = Answers s (askedTimes k s l) (Message m) (lent ((m .at + m .len) ∷ (n - suc k) ∷ x ∷ y ∷ []) (entrySlots m))
 
     abbrev IsDone : Lent → Type 0
     IsDone l = Answers s l Done l
@@ -102,9 +103,9 @@ module _ (s : List ℕ) where
             let f : suc n - suc (suc k) ≡ n - suc k = omega arith in
             let p = getD (messagesAt n s next) k (place 0 0) in
             rw f
-            (subst (λ (z : Lent). Answers s z (Message p) (lent ((p .at + p .len) ∷ (n - suc k) ∷ x ∷ y ∷ []) (padded 8 (flatPlace p))))
-            (sym (after-first k (from (suc n) at e) (from n next (padded 8 (flatPlace m))) (entry-there at n x y e m next h .1)))
-            (more next (padded 8 (flatPlace m)) w k (le-of-suc-le-suc l)))
+            (subst (λ (z : Lent). Answers s z (Message p) (lent ((p .at + p .len) ∷ (n - suc k) ∷ x ∷ y ∷ []) (entrySlots p)))
+            (sym (after-first k (from (suc n) at e) (from n next (entrySlots m)) (entry-there at n x y e m next h .1)))
+            (more next (entrySlots m) w k (le-of-suc-le-suc l)))
 
     -- and after the last one it is done.
     stays : (k at : ℕ) (e : List ℕ) → askedTimes k s (from 0 at e) ≡ from 0 at e
@@ -121,7 +122,7 @@ module _ (s : List ℕ) where
         by : (o : Outcome Place) → readEntry s at ≡ o → ((next : ℕ) (f : List ℕ) → Good (repeated readEntry n s next) → IsDone (askedTimes k s (from n next f))) → Good (then o (λ a next. repeated readEntry n s next)) → IsDone (askedTimes (suc k) s (from (suc n) at e))
         by (refused i p) h more w = absurd w
         by (got m next) h more w =
-            subst IsDone (sym (after-first k (from (suc n) at e) (from n next (padded 8 (flatPlace m))) (entry-there at n x y e m next h .1))) (more next (padded 8 (flatPlace m)) w)
+            subst IsDone (sym (after-first k (from (suc n) at e) (from n next (entrySlots m)) (entry-there at n x y e m next h .1))) (more next (entrySlots m) w)
 
 -- ---- The whole run
 

@@ -1,4 +1,4 @@
--- What the reader in slots does over a whole run of calls. The proof is in proofs/SlotRuns.antt.
+-- What the reader in slots does over a whole run of calls. The proofs are in proofs/SlotRuns.antt and proofs/Delivers.antt.
 use mathlib.Core.Path.{_≡_}
 use mathlib.Core.Bool.{false}
 use mathlib.Core.List.{List, [], _∷_}
@@ -9,7 +9,7 @@ use Rattle.protocol.specs.Fields.{Fields, place, outside}
 use Rattle.protocol.specs.declared.place.Place.{Place}
 use Rattle.rules.specs.Outcome.{got, refused}
 use Rattle.rules.specs.Reading.{readEntry, readChunk, frame, readFrame}
-use Rattle.flat.specs.Flat.{flatPlace, padded, flatFrame}
+use Rattle.flat.specs.Flat.{flatFrame}
 use Rattle.chunk_reader.specs.Messages.{messagesOf}
 use Rattle.chunk_reader.specs.Run.{WellFormed}
 use Rattle.chunk_reader.specs.Slots.{openNumber, readerOpened, nextFound, readerAfter, entryAfter}
@@ -48,9 +48,9 @@ atFirst s x y = 48 ∷ length (messagesOf s) ∷ x ∷ y ∷ []
 abbrev pub pastMessage : List ℕ → ℕ → ℕ → ℕ → List ℕ
 pastMessage s n x y = (messageNo s n .at + messageNo s n .len) ∷ (length (messagesOf s) - suc n) ∷ x ∷ y ∷ []
 
--- The slots of an entry: the place and the length of its message, then 0.
+-- The slots of an entry: the place of its message, its length, and six that are 0.
 abbrev pub entrySlots : Place → List ℕ
-entrySlots m = padded 8 (flatPlace m)
+entrySlots m = m .at ∷ m .len ∷ 0 ∷ 0 ∷ 0 ∷ 0 ∷ 0 ∷ 0 ∷ []
 
 pub record SlotRun (s : List ℕ) : Type 0 where
   -- Bytes that are not one well-formed chunk are refused with the check's number, which is not 0, and the slots stay.
