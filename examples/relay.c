@@ -56,13 +56,19 @@ static size_t frame_length(const uint8_t *frame)
     return 4 + (((size_t)frame[0] << 24) | ((size_t)frame[1] << 16) | ((size_t)frame[2] << 8) | frame[3]);
 }
 
-/* Every message of a Deliver, in order, until the index is behind the last one. */
-static void walk_messages(const uint64_t deliver[24], const uint8_t *bytes, size_t len, struct summary *sum)
+/* Every message of a Deliver that was read, in order. Its chunk starts 48 bytes before the place of its data. */
+static void walk_messages(const uint64_t deliver[24], const uint8_t *bytes, struct summary *sum)
 {
-    uint64_t message[8];
-    for (uint64_t i = 0; krevilosh_message(deliver, bytes, len, i, message) == 0; i++) {
+    uint64_t reader[KREVILOSH_READER_SLOTS], entry[KREVILOSH_ELEMENT_SLOTS];
+    const uint64_t *data = deliver + (deliver[1] == 1 ? 15 : 16);
+    const uint8_t *chunk = bytes + data[0] - 48;
+    size_t len = 48 + (size_t)data[1];
+
+    if (krevilosh_chunk_open(chunk, len, reader) != 0)
+        return;
+    while (KREVILOSH_NUMBER(krevilosh_chunk_next(chunk, len, reader, entry)) == 1) {
         sum->messages++;
-        sum->message_bytes += message[1];
+        sum->message_bytes += entry[1];
     }
 }
 
@@ -84,7 +90,7 @@ static uint64_t take_frames(const uint8_t *bytes, size_t len, uint8_t subscripti
             krevilosh_credit_open(ledger, subscription, credit);
         if (frame[0] == DELIVER) {
             sum->delivers++;
-            walk_messages(frame, bytes + at, len - at, sum);
+            walk_messages(frame, bytes + at, sum);
             krevilosh_credit_grant(ledger, (uint8_t)frame[2], 1);
         }
         at += frame_length(bytes + at);

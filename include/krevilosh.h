@@ -28,6 +28,7 @@ extern "C" {
  * the call is accepted, and a number above them:
  *   refusal 1            the bytes that the frame needs (4 to 4,294,967,299)
  *   an accepted write    the frame's length
+ *   an entry of a chunk  1, which tells it from the end
  *   otherwise            0
  */
 #define KREVILOSH_REFUSAL(answer) ((unsigned)((answer) & 0xff))
@@ -118,12 +119,44 @@ uint64_t krevilosh_element(uint8_t shape, const uint8_t *source, size_t source_l
  * Refusals: 4 for another key, 5 for another version, 6 for a place outside the source, 10 for a chunk of a type other
  * than 0, an index at or above its entries or an entry count above 65,535, then those of the entries up to and including
  * the one asked for.
- * A call goes over the entries in front of the one that it is asked for. A host that walks a chunk of many messages can go
- * from each to the next itself: in a frame that was read, the four bytes in front of a message are its length, big endian,
- * and the next entry begins where the message ends, up to the end of the data.
+ * A call goes over all entries before the one that it is asked for. To walk the messages of a chunk, use the chunk reader,
+ * which goes over each entry once.
  */
 uint64_t krevilosh_message(const uint64_t frame[24], const uint8_t *source, size_t source_len, uint64_t index,
                            uint64_t message[8]);
+
+/*
+ * The chunk reader: the entries of a chunk one after another, each call in constant time. The host owns the reader, an
+ * array that krevilosh_chunk_open fills and krevilosh_chunk_next moves on:
+ *   reader[0]             where the next entry begins, counted from the chunk's first byte
+ *   reader[1]             how many entries are left
+ *   reader[2], reader[3]  kept for later use: 0 when a chunk is opened, and then neither looked at nor changed
+ */
+#define KREVILOSH_READER_SLOTS 4
+
+/*
+ * Opens a chunk, which is checked as the rest of a Deliver is: reader is then { 48, entries, 0, 0 }, or { 48, 0, 0, 0 } for
+ * a chunk of type 1 or 2, whose data stays unopened.
+ * The chunk's bytes are its header of 48 bytes and its data, and nothing else. In a Deliver that was read they start 48
+ * bytes before the place of the data: for version 1 they are the 48 + frame[16] bytes at bytes + frame[15] - 48, for
+ * version 2 the 48 + frame[17] bytes at bytes + frame[16] - 48.
+ * Refusals: 6 for a header that is cut, 10 for another type, 6 for data that is cut, 11 for bytes after the data; for type
+ * 0 also 10 for records that differ from the entries, for each entry 6, 10, 6 (four bytes, top bit, message), and 11 for
+ * data after the last entry.
+ */
+uint64_t krevilosh_chunk_open(const uint8_t *chunk, size_t len, uint64_t reader[4]);
+
+/*
+ * The next entry: entry[0] is the place of its message, counted from the chunk's first byte, entry[1] its length; the
+ * other slots are 0. The chunk is the one that the reader was opened with.
+ *   1 above the refusal number   an entry, and the reader has moved past it
+ *   0 above it                   the end: no entries are left, and reader and entry stay as they were
+ * Of a chunk that was opened no entry is refused. A reader that the host filled itself, or bytes that were changed, get an
+ * answer too: the end where no entries are left, whatever the place, else what the entry at the place gives. A message
+ * that is given always lies in the chunk.
+ * Refusals: 6 for an entry of which not four bytes are there, 10 if its top bit is 1, 6 for a message that is cut.
+ */
+uint64_t krevilosh_chunk_next(const uint8_t *chunk, size_t len, uint64_t reader[4], uint64_t entry[8]);
 
 /*
  * The credit ledger: 256 subscription ids, each closed or open with a balance of chunks. The host owns the array, clears
@@ -163,10 +196,23 @@ uint64_t krevilosh_publisher_confirm(uint32_t ledger[257], uint8_t id, uint32_t 
 /*
  * Example: reads frames from a buffer as they come, and gives each message of a Deliver to `block`.
  *
+ *     // The messages of a Deliver that was read from the bytes.
+ *     void walk(const uint64_t frame[24], const uint8_t *bytes)
+ *     {
+ *         uint64_t reader[4], entry[8];
+ *         const uint64_t *data = frame + (frame[1] == 1 ? 15 : 16);  // place, length
+ *         const uint8_t *chunk = bytes + data[0] - 48;
+ *         size_t len = 48 + data[1];
+ *         if (krevilosh_chunk_open(chunk, len, reader) != 0)
+ *             return;  // not the chunk of a Deliver that was read
+ *         while (KREVILOSH_NUMBER(krevilosh_chunk_next(chunk, len, reader, entry)) == 1)
+ *             block(chunk + entry[0], entry[1]);
+ *     }
+ *
  *     // Takes the whole frames at the start of bytes, and returns how many bytes they were.
  *     size_t take(uint32_t ledger[257], const uint8_t *bytes, size_t len)
  *     {
- *         uint64_t frame[24], message[8];
+ *         uint64_t frame[24];
  *         size_t at = 0;
  *         for (;;) {
  *             uint64_t answer = krevilosh_credit_receive(ledger, bytes + at, len - at, 65532, frame);
@@ -174,11 +220,8 @@ uint64_t krevilosh_publisher_confirm(uint32_t ledger[257], uint8_t id, uint32_t 
  *                 return at;  // wait until KREVILOSH_NUMBER(answer) bytes are there
  *             if (KREVILOSH_REFUSAL(answer) != 0)
  *                 fail(KREVILOSH_REFUSAL(answer));
- *             for (uint64_t i = 0; frame[0] == 0x0008; i++) {
- *                 if (krevilosh_message(frame, bytes + at, len - at, i, message) != 0)
- *                     break;  // 10: behind the last message, or the chunk is of another type
- *                 block(bytes + at + message[0], message[1]);
- *             }
+ *             if (frame[0] == 0x0008)
+ *                 walk(frame, bytes + at);
  *             at += 4 + (((size_t)bytes[at] << 24) | (bytes[at + 1] << 16) | (bytes[at + 2] << 8) | bytes[at + 3]);
  *         }
  *     }

@@ -12,6 +12,8 @@ uint64_t krevilosh_element(uint8_t shape, const uint8_t *source, size_t source_l
                            uint64_t length, uint64_t index, uint64_t element[8]);
 uint64_t krevilosh_message(const uint64_t frame[24], const uint8_t *source, size_t source_len, uint64_t index,
                            uint64_t message[8]);
+uint64_t krevilosh_chunk_open(const uint8_t *chunk, size_t len, uint64_t reader[4]);
+uint64_t krevilosh_chunk_next(const uint8_t *chunk, size_t len, uint64_t reader[4], uint64_t entry[8]);
 void krevilosh_credit_empty(uint32_t ledger[257]);
 uint64_t krevilosh_credit_open(uint32_t ledger[257], uint8_t id, uint16_t credit);
 uint64_t krevilosh_credit_grant(uint32_t ledger[257], uint8_t id, uint16_t n);
@@ -56,6 +58,27 @@ static void frames(void) {
     expect("its message", answer == 0 && slots[0] == sizeof deliver - 1 && slots[1] == 1);
 }
 
+// The walk of the header's example, over the Deliver's chunk and over bytes that are none.
+static void chunks(void) {
+    uint64_t frame[24], reader[KREVILOSH_READER_SLOTS] = {1, 2, 3, 4}, entry[8] = {5, 6, 7, 8};
+    expect("no chunk in no bytes", krevilosh_chunk_open(NULL, 0, reader) == 6);
+    expect("nor in half a header", krevilosh_chunk_open(deliver, 47, reader) == 6);
+    expect("and the reader stays", reader[0] == 1 && reader[1] == 2 && reader[2] == 3 && reader[3] == 4);
+    expect("a Deliver is read", krevilosh_read(deliver, sizeof deliver, 0, frame) == 0);
+    const uint8_t *chunk = deliver + frame[15] - 48;
+    size_t len = 48 + frame[16];
+    expect("its chunk is opened", krevilosh_chunk_open(chunk, len, reader) == 0);
+    expect("at its entry", reader[0] == 48 && reader[1] == 1 && reader[2] == 0 && reader[3] == 0);
+    reader[3] = 9;
+    uint64_t answer = krevilosh_chunk_next(chunk, len, reader, entry);
+    expect("an entry", KREVILOSH_REFUSAL(answer) == 0 && KREVILOSH_NUMBER(answer) == 1);
+    expect("its message", entry[1] == 1 && chunk[entry[0]] == 'A' && entry[2] == 0 && entry[3] == 0);
+    expect("the reader after it", reader[0] == len && reader[1] == 0 && reader[3] == 9);
+    expect("the end", krevilosh_chunk_next(chunk, len, reader, entry) == 0 && entry[1] == 1);
+    reader[1] = 1;
+    expect("no entry there", krevilosh_chunk_next(chunk, len, reader, entry) == 6 && reader[1] == 1 && entry[1] == 1);
+}
+
 static void ledgers(void) {
     uint64_t frame[24];
     uint32_t ledger[257];
@@ -74,6 +97,7 @@ static void ledgers(void) {
 
 int main(void) {
     frames();
+    chunks();
     ledgers();
     return failures != 0;
 }

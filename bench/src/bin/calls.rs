@@ -5,7 +5,7 @@
 use std::hint::black_box;
 
 use bench::times;
-use boundary::{Archive, Boundary, ElementSlots, Frame, Ledger, List};
+use boundary::{Archive, Boundary, ElementSlots, Frame, Ledger, List, ReaderSlots, Reference, number};
 use reference::Refusal;
 
 const LIMIT: u32 = 0;
@@ -26,6 +26,16 @@ fn write(frame: &Frame, source: &[u8], limit: u32, out: &mut [u8]) -> Result<usi
 #[inline(never)]
 fn element(shape: u8, source: &[u8], list: List, index: u64) -> Result<ElementSlots, Refusal> {
     reference::element(shape, source, list.count, list.place, list.length, index)
+}
+
+#[inline(never)]
+fn chunk_open(chunk: &[u8], reader: &mut ReaderSlots) -> u64 {
+    Reference.chunk_open(chunk, reader)
+}
+
+#[inline(never)]
+fn chunk_next(chunk: &[u8], reader: &mut ReaderSlots, entry: &mut ElementSlots) -> u64 {
+    Reference.chunk_next(chunk, reader, entry)
 }
 
 #[inline(never)]
@@ -72,6 +82,8 @@ fn main() {
         row(&name, read_times(&bench::open(length)));
     }
     row("element 99 of a Publish of 100", element_times(&bench::publish(100, 100)));
+    row("walk  a chunk of 300 x 200 bytes", walk_times(&bench::deliver(300, 200)));
+    row("walk  a chunk of 65,535 x 10 bytes", walk_times(&bench::deliver(65_535, 10)));
     row("credit ledger: open and close", open_close_times());
     row("credit ledger: grant", grant_times());
     row("credit ledger: receive a small Deliver", receive_times(&bench::deliver(1, 10)));
@@ -130,6 +142,41 @@ fn element_times(bytes: &[u8]) -> (f64, f64) {
         },
         || {
             black_box(element(black_box(MESSAGE), black_box(bytes), black_box(list), black_box(LAST))).ok();
+        },
+    )
+}
+
+/// A Deliver's chunk is opened, and asked for its entries up to the end.
+fn walk_times(bytes: &[u8]) -> (f64, f64) {
+    let frame = read(bytes, LIMIT).expect("the frame is well formed");
+    let chunk = &bytes[frame[15] as usize - 48..];
+    let (mut a, mut b) = ([0; 4], [0; 4]);
+    let mut entry = [0; 8];
+    let mut library = || {
+        let mut length = 0;
+        black_box(Archive.chunk_open(black_box(chunk), black_box(&mut a)));
+        while number(Archive.chunk_next(black_box(chunk), black_box(&mut a), black_box(&mut entry))) == 1 {
+            length += entry[1];
+        }
+        length
+    };
+    let mut entry = [0; 8];
+    let mut reference = || {
+        let mut length = 0;
+        black_box(chunk_open(black_box(chunk), black_box(&mut b)));
+        while number(chunk_next(black_box(chunk), black_box(&mut b), black_box(&mut entry))) == 1 {
+            length += entry[1];
+        }
+        length
+    };
+    let length = chunk.len() as u64 - 48 - 4 * frame[5];
+    assert_eq!((library(), reference()), (length, length));
+    times(
+        || {
+            black_box(library());
+        },
+        || {
+            black_box(reference());
         },
     )
 }

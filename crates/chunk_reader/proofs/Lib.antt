@@ -2,3 +2,6 @@
 pub mod Spots
 pub mod Runs
 pub mod Held
+pub mod SlotCalls
+pub mod SlotRuns
+pub mod Delivers

@@ -73,14 +73,14 @@ entries-good entries records s =
     P : Unit {0} → ℕ → Type 0
     P _ _ = Good (repeated readEntry entries s 48)
 
-chunk-good : (s : List ℕ) → WellFormed s → Good (repeated readEntry (messageCount (headerAt s 0)) s 48)
+pub chunk-good : (s : List ℕ) → WellFormed s → Good (repeated readEntry (messageCount (headerAt s 0)) s 48)
 unfolding repeated
 chunk-good s w =
     let h = headerAt s 0 in
     from-chunk s (Good (repeated readEntry (cond (hasEntries (h .«chunk_type»)) (h .entries) 0) s 48))
     (λ _ e. rw e (entries-good (h .entries) (h .records) s)) (λ e. rw e tt) w
 
-not-zero : (n : ℕ) → suc n ≡ 0 → ⊥
+pub not-zero : (n : ℕ) → suc n ≡ 0 → ⊥
 not-zero n e = omega arith
 
 module _ (c : RefT (List ℕ)) where
@@ -146,7 +146,7 @@ abbrev AllInside : List ℕ → List Place → Type 0
 AllInside s [] = Unit
 AllInside s (p ∷ ps) = (outside p s ≡ false) × AllInside s ps
 
-entry-inside : (s : List ℕ) (at : ℕ) → Gives (λ m _. outside m s ≡ false) (readEntry s at)
+pub entry-inside : (s : List ℕ) (at : ℕ) → Gives (λ m _. outside m s ≡ false) (readEntry s at)
 unfolding readEntry
 entry-inside s at =
     after-number In 4 s at _ (λ _.

@@ -2,3 +2,5 @@
 pub mod Messages
 pub mod Reader
 pub mod Run
+pub mod Slots
+pub mod SlotRun

@@ -9,6 +9,9 @@ use Rattle.protocol.specs.Refusals as refusals
 use Rattle.ledger.specs.Calls.{accepted, refused}
 use Rattle.credit.specs.Calls as credit
 use Rattle.publisher.specs.Calls as publisher
+use Rattle.chunk_reader.specs.declared.spot.Found.{Found}
+use Rattle.chunk_reader.specs.declared.spot.Found.the-variants.{Ready, Message, Done}
+use Rattle.chunk_reader.specs.declared.spot.Found.the-variants as found
 use Rattle.frame_reading.specs.declared.reading.FrameRead.{FrameRead}
 use Rattle.frame_reading.specs.declared.reading.FrameRead.the-variants.{Frame, Short, Refused}
 
@@ -42,6 +45,13 @@ writtenNumber (writing.refusal n) = n
 abbrev pub LengthFits : Written → Type 0
 LengthFits (length n) = n ≤ 4294967299
 LengthFits (writing.refusal n) = Unit
+
+-- An entry of a chunk comes with a 1, which tells it from the end. `Ready` is no answer to a question.
+abbrev pub nextNumber : Found → ℕ
+nextNumber Ready = 0
+nextNumber (Message m) = answer 0 1
+nextNumber Done = 0
+nextNumber (found.Refused n) = n
 
 -- A refusal's number; 0 where there is none.
 abbrev pub orZero : Option ℕ → ℕ

@@ -7,6 +7,7 @@ ghost use Rattle.krevilosh.specs.Answer.{answer};
 mod asking;
 mod changes;
 mod credits;
+mod entries;
 mod publishers;
 mod reading;
 mod writing;

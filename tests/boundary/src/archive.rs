@@ -2,7 +2,7 @@
 
 use std::ptr;
 
-use crate::{Boundary, ElementSlots, Frame, Ledger, List};
+use crate::{Boundary, ElementSlots, Frame, Ledger, List, ReaderSlots};
 
 unsafe extern "C" {
     fn krevilosh_read(bytes: *const u8, len: usize, limit: u32, frame: *mut u64) -> u64;
@@ -31,6 +31,8 @@ unsafe extern "C" {
         index: u64,
         message: *mut u64,
     ) -> u64;
+    fn krevilosh_chunk_open(chunk: *const u8, len: usize, reader: *mut u64) -> u64;
+    fn krevilosh_chunk_next(chunk: *const u8, len: usize, reader: *mut u64, entry: *mut u64) -> u64;
     fn krevilosh_credit_empty(ledger: *mut u32);
     fn krevilosh_credit_open(ledger: *mut u32, id: u8, credit: u16) -> u64;
     fn krevilosh_credit_grant(ledger: *mut u32, id: u8, n: u16) -> u64;
@@ -93,6 +95,16 @@ impl Boundary for Archive {
         unsafe {
             krevilosh_message(frame.as_ptr(), pointer(source), source.len(), index, message.as_mut_ptr())
         }
+    }
+
+    #[inline(always)]
+    fn chunk_open(&self, chunk: &[u8], reader: &mut ReaderSlots) -> u64 {
+        unsafe { krevilosh_chunk_open(pointer(chunk), chunk.len(), reader.as_mut_ptr()) }
+    }
+
+    #[inline(always)]
+    fn chunk_next(&self, chunk: &[u8], reader: &mut ReaderSlots, entry: &mut ElementSlots) -> u64 {
+        unsafe { krevilosh_chunk_next(pointer(chunk), chunk.len(), reader.as_mut_ptr(), entry.as_mut_ptr()) }
     }
 
     fn credit_empty(&self, ledger: &mut Ledger) {

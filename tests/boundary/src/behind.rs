@@ -1,6 +1,6 @@
 use reference::{Reason, Refusal, credit, publisher};
 
-use crate::{Boundary, ElementSlots, Frame, Ledger, List};
+use crate::{Boundary, ElementSlots, Frame, Ledger, List, ReaderSlots};
 
 /// The reference, answering as the C boundary does.
 pub struct Reference;
@@ -20,6 +20,10 @@ fn handed<T>(result: Result<T, Refusal>, slots: &mut T) -> u64 {
     accepted(result.map(|given| *slots = given))
 }
 
+fn message_slots((place, length): (u64, u64)) -> ElementSlots {
+    [place, length, 0, 0, 0, 0, 0, 0]
+}
+
 impl Boundary for Reference {
     fn read(&self, bytes: &[u8], limit: u32, frame: &mut Frame) -> u64 {
         handed(reference::read(bytes, limit), frame)
@@ -34,8 +38,23 @@ impl Boundary for Reference {
     }
 
     fn message(&self, frame: &Frame, source: &[u8], index: u64, message: &mut ElementSlots) -> u64 {
-        let found = reference::message(frame, source, index);
-        handed(found.map(|(place, length)| [place, length, 0, 0, 0, 0, 0, 0]), message)
+        handed(reference::message(frame, source, index).map(message_slots), message)
+    }
+
+    fn chunk_open(&self, chunk: &[u8], reader: &mut ReaderSlots) -> u64 {
+        handed(reference::chunk_open(chunk), reader)
+    }
+
+    #[inline(always)]
+    fn chunk_next(&self, chunk: &[u8], reader: &mut ReaderSlots, entry: &mut ElementSlots) -> u64 {
+        match reference::chunk_next(chunk, reader) {
+            Ok(Some(message)) => {
+                *entry = message_slots(message);
+                1 << 8
+            }
+            Ok(None) => 0,
+            Err(refusal) => refused(refusal),
+        }
     }
 
     fn credit_empty(&self, ledger: &mut Ledger) {

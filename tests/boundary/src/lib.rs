@@ -1,5 +1,6 @@
 //! What the host in C sees: every function answers one number, whose low eight bits are the refusal (0: accepted) and
-//! whose other bits are the bytes needed for refusal 1, or the length of a frame that was written.
+//! whose other bits are the bytes needed for refusal 1, the length of a frame that was written, or 1 for an entry of a
+//! chunk.
 
 #[cfg(archive)]
 mod archive;
@@ -8,7 +9,7 @@ mod behind;
 #[cfg(archive)]
 pub use archive::Archive;
 pub use behind::Reference;
-pub use reference::{ElementSlots, Frame, Ledger};
+pub use reference::{ElementSlots, Frame, Ledger, ReaderSlots};
 
 /// The library under test, if its archive was built before this.
 pub fn archive() -> Option<&'static dyn Boundary> {
@@ -24,6 +25,8 @@ pub trait Boundary {
     fn write(&self, frame: &Frame, source: &[u8], limit: u32, out: &mut [u8]) -> u64;
     fn element(&self, shape: u8, source: &[u8], list: List, index: u64, element: &mut ElementSlots) -> u64;
     fn message(&self, frame: &Frame, source: &[u8], index: u64, message: &mut ElementSlots) -> u64;
+    fn chunk_open(&self, chunk: &[u8], reader: &mut ReaderSlots) -> u64;
+    fn chunk_next(&self, chunk: &[u8], reader: &mut ReaderSlots, entry: &mut ElementSlots) -> u64;
     fn credit_empty(&self, ledger: &mut Ledger);
     fn credit_open(&self, ledger: &mut Ledger, id: u8, credit: u16) -> u64;
     fn credit_grant(&self, ledger: &mut Ledger, id: u8, n: u16) -> u64;
@@ -49,7 +52,7 @@ pub fn refusal(answer: u64) -> u8 {
     answer as u8
 }
 
-/// The bytes needed, or the length written.
+/// The bytes needed, the length written, or 1 for an entry.
 pub fn number(answer: u64) -> u64 {
     answer >> 8
 }

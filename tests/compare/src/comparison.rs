@@ -2,7 +2,7 @@
 
 use std::fmt::Write;
 
-use boundary::{Boundary, ElementSlots, Frame, Ledger, List, number, refusal};
+use boundary::{Boundary, ElementSlots, Frame, Ledger, List, ReaderSlots, number, refusal};
 
 /// What the slots and the output hold before a call, so that a write to any of them shows.
 const UNTOUCHED_SLOT: u64 = 0xdead_beef_0bad_cafe;
@@ -114,7 +114,7 @@ impl<'a> Comparison<'a> {
         Ok((refusal(reference) == 0).then_some(b))
     }
 
-    pub fn message(&mut self, frame: &Frame, source: &[u8], index: u64) -> Done {
+    pub fn message(&mut self, frame: &Frame, source: &[u8], index: u64) -> Compared<Option<ElementSlots>> {
         let (mut a, mut b) = ([UNTOUCHED_SLOT; 8], [UNTOUCHED_SLOT; 8]);
         let library = self.library.message(frame, source, index, &mut a);
         let reference = self.reference.message(frame, source, index, &mut b);
@@ -124,7 +124,44 @@ impl<'a> Comparison<'a> {
             let tell = |answer, message: ElementSlots| format!("{} message {message:?}", told(answer));
             return Err(differ("message", arguments, tell(library, a), tell(reference, b)));
         }
-        Ok(())
+        Ok((refusal(reference) == 0).then_some(b))
+    }
+
+    /// Opens a chunk, and gives the reader if it was accepted.
+    pub fn chunk_open(&mut self, chunk: &[u8]) -> Compared<Option<ReaderSlots>> {
+        let (mut a, mut b) = ([UNTOUCHED_SLOT; 4], [UNTOUCHED_SLOT; 4]);
+        let library = self.library.chunk_open(chunk, &mut a);
+        let reference = self.reference.chunk_open(chunk, &mut b);
+        self.count(reference);
+        if (library, a) != (reference, b) {
+            let arguments = format!("chunk {}", hex(chunk));
+            let tell = |answer, reader: ReaderSlots| format!("{} reader {reader:?}", told(answer));
+            return Err(differ("chunk_open", arguments, tell(library, a), tell(reference, b)));
+        }
+        Ok((refusal(reference) == 0).then_some(b))
+    }
+
+    /// Asks a reader for its next entry, and gives the entry if there is one.
+    pub fn chunk_next(&mut self, chunk: &[u8], reader: &mut ReaderSlots) -> Compared<Option<ElementSlots>> {
+        let before = *reader;
+        let mut other = before;
+        let (mut a, mut b) = ([UNTOUCHED_SLOT; 8], [UNTOUCHED_SLOT; 8]);
+        let library = self.library.chunk_next(chunk, &mut other, &mut a);
+        let reference = self.reference.chunk_next(chunk, reader, &mut b);
+        self.count(reference);
+        if (library, other, a) != (reference, *reader, b) {
+            let arguments = format!("reader {before:?}\nchunk {}", hex(chunk));
+            let tell = |answer, reader: &ReaderSlots, entry: ElementSlots| {
+                format!("{} reader {reader:?} entry {entry:?}", told(answer))
+            };
+            return Err(differ(
+                "chunk_next",
+                arguments,
+                tell(library, &other, a),
+                tell(reference, reader, b),
+            ));
+        }
+        Ok((number(reference) == 1).then_some(b))
     }
 
     /// A ledger call other than receiving; both ledgers begin alike and must end alike.

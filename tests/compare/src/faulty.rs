@@ -1,7 +1,10 @@
 //! The reference with one deliberate fault, to show that the comparison finds it.
 
-use boundary::{Boundary, ElementSlots, Frame, Ledger, List, Reference, refusal};
+use boundary::{Boundary, ElementSlots, Frame, Ledger, List, ReaderSlots, Reference, refusal};
 use reference::NULL;
+
+use crate::chunks::{DATA_LENGTH, ENTRIES, HEADER};
+use crate::reading::number_at;
 
 #[derive(Clone, Copy, PartialEq, Eq, Debug)]
 pub enum Fault {
@@ -19,6 +22,20 @@ pub enum Fault {
     ElementIgnoresItsPlace,
     LastElementIsRefused,
     MessageIgnoresTheType,
+    ChunkOfAnyTypeHasEntries,
+    ChunkIgnoresBytesAfterIt,
+    ChunkIgnoresItsRecords,
+    RefusedChunkTouchesTheReader,
+    OpenedReaderKeepsItsLastSlots,
+    LastEntryIsLeftOut,
+    EntryIsGivenTwice,
+    EntryPlaceCountsFromTheData,
+    EntryClearsTheLastSlots,
+    EntryKeepsTheOtherSlots,
+    EndClearsTheEntry,
+    EndIgnoresWhatIsLeft,
+    RefusedEntryMovesTheReader,
+    RefusedEntryIsTheEnd,
     RefusedDeliverSpends,
     RefusedDeliverHandsBackItsFrame,
     DeliverCostsItsMessages,
@@ -29,7 +46,7 @@ pub enum Fault {
 }
 
 impl Fault {
-    pub const ALL: [Fault; 21] = [
+    pub const ALL: [Fault; 35] = [
         Fault::NullIsReadAsEmpty,
         Fault::RefusedReadTouchesTheFrame,
         Fault::NeededLeavesOutSizeField,
@@ -44,6 +61,20 @@ impl Fault {
         Fault::ElementIgnoresItsPlace,
         Fault::LastElementIsRefused,
         Fault::MessageIgnoresTheType,
+        Fault::ChunkOfAnyTypeHasEntries,
+        Fault::ChunkIgnoresBytesAfterIt,
+        Fault::ChunkIgnoresItsRecords,
+        Fault::RefusedChunkTouchesTheReader,
+        Fault::OpenedReaderKeepsItsLastSlots,
+        Fault::LastEntryIsLeftOut,
+        Fault::EntryIsGivenTwice,
+        Fault::EntryPlaceCountsFromTheData,
+        Fault::EntryClearsTheLastSlots,
+        Fault::EntryKeepsTheOtherSlots,
+        Fault::EndClearsTheEntry,
+        Fault::EndIgnoresWhatIsLeft,
+        Fault::RefusedEntryMovesTheReader,
+        Fault::RefusedEntryIsTheEnd,
         Fault::RefusedDeliverSpends,
         Fault::RefusedDeliverHandsBackItsFrame,
         Fault::DeliverCostsItsMessages,
@@ -113,6 +144,48 @@ impl Boundary for Faulty {
             frame[if frame[1] == 1 { 4 } else { 5 }] = 0;
         }
         LIBRARY.message(&frame, source, index, message)
+    }
+
+    fn chunk_open(&self, chunk: &[u8], reader: &mut ReaderSlots) -> u64 {
+        let before = *reader;
+        let answer = LIBRARY.chunk_open(chunk, reader);
+        match (self.0, answer) {
+            (Fault::ChunkOfAnyTypeHasEntries, 0) => reader[1] = number_at(chunk, ENTRIES),
+            (Fault::ChunkIgnoresBytesAfterIt, 11) => {
+                let end = HEADER + number_at(chunk, DATA_LENGTH) as usize;
+                return LIBRARY.chunk_open(&chunk[..end], reader);
+            }
+            (Fault::ChunkIgnoresItsRecords, 10) => {
+                let mut other = chunk.to_vec();
+                other[4..8].copy_from_slice(&[0, 0, chunk[2], chunk[3]]);
+                return LIBRARY.chunk_open(&other, reader);
+            }
+            (Fault::RefusedChunkTouchesTheReader, 6) => reader[1] = 0,
+            (Fault::OpenedReaderKeepsItsLastSlots, 0) => reader[2..].copy_from_slice(&before[2..]),
+            _ => {}
+        }
+        answer
+    }
+
+    fn chunk_next(&self, chunk: &[u8], reader: &mut ReaderSlots, entry: &mut ElementSlots) -> u64 {
+        let (place, slots) = (reader[0], *entry);
+        match self.0 {
+            Fault::LastEntryIsLeftOut if reader[1] == 1 => return 0,
+            Fault::EndIgnoresWhatIsLeft if reader[0] == chunk.len() as u64 => return 0,
+            _ => {}
+        }
+        let answer = LIBRARY.chunk_next(chunk, reader, entry);
+        match (self.0, answer) {
+            (Fault::EntryIsGivenTwice, 0x100) => reader[0] = place,
+            (Fault::EntryPlaceCountsFromTheData, 0x100) => entry[0] = entry[0].wrapping_sub(48),
+            (Fault::EntryClearsTheLastSlots, 0x100) => reader[2..].fill(0),
+            (Fault::EntryKeepsTheOtherSlots, 0x100) => entry[2..].copy_from_slice(&slots[2..]),
+            (Fault::EndClearsTheEntry, 0) => entry.fill(0),
+            (Fault::RefusedEntryMovesTheReader, 6) => reader[0] = chunk.len() as u64,
+            (Fault::RefusedEntryIsTheEnd, 10) => return 0,
+            _ => {}
+        }
+        answer
     }
 
     fn credit_empty(&self, ledger: &mut Ledger) {

@@ -3,6 +3,7 @@
 use random::Random;
 use reference::{keys, versions};
 
+use crate::chunks::{chunk_readers, random_chunk};
 use crate::comparison::{Comparison, Done};
 use crate::generate;
 use crate::ledgers::{credit_calls, publisher_calls};
@@ -33,6 +34,7 @@ pub fn compare(comparison: &mut Comparison, random: &mut Random, inputs: u64) ->
         for _ in 0..200 {
             random_frame(comparison, random)?;
             random_flat_frame(comparison, random)?;
+            random_chunk(comparison, random)?;
         }
         for _ in 0..20 {
             credit_calls(comparison, random)?;
@@ -52,6 +54,7 @@ fn layout(comparison: &mut Comparison, random: &mut Random, key: u16, version: u
         elements(comparison, random, &generated, &frame)?;
         if key == 0x0008 {
             messages(comparison, random, &generated, &frame)?;
+            chunk_readers(comparison, random, &generated, &frame)?;
         }
     }
     Ok(())

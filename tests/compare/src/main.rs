@@ -3,6 +3,7 @@
 //!     compare [--inputs N] [--seed S]      the archive against the reference
 //!     compare --self-test [--seed S]       the reference against itself, and against itself with each of some faults
 
+mod chunks;
 mod comparison;
 mod faulty;
 mod generate;

@@ -125,12 +125,12 @@ fn bytes_altered(comparison: &mut Comparison, random: &mut Random, bytes: &mut [
     Ok(())
 }
 
-fn number_at(bytes: &[u8], mark: Mark) -> u64 {
+pub fn number_at(bytes: &[u8], mark: Mark) -> u64 {
     bytes[mark.at..mark.at + mark.width].iter().fold(0, |value, byte| value << 8 | u64::from(*byte))
 }
 
 /// Puts a number in place for one call.
-fn with_number<T>(
+pub fn with_number<T>(
     bytes: &mut [u8],
     mark: Mark,
     value: u64,

@@ -1,6 +1,6 @@
 //! Chunks: the header, the entries of type 0, the message at an index and the chunk reader (01 "Chunks").
 
-use crate::{Frame, Reason, Refusal, part};
+use crate::{Frame, ReaderSlots, Reason, Refusal, part};
 
 /// The bytes of a chunk's header.
 pub(crate) const HEADER: usize = 48;
@@ -208,6 +208,34 @@ pub fn message(frame: &Frame, source: &[u8], index: u64) -> Result<(u64, u64), R
     Ok((place + skipped as u64, message.len() as u64))
 }
 
+/// How many messages a chunk has, if it is well formed: its entries, or none if it is of type 1 or 2.
+fn message_count(chunk: &[u8]) -> Result<u16, Refusal> {
+    let header = check(chunk).map_err(|fault| Refusal::at(fault.reason, fault.place))?;
+    Ok(if header.kind == 0 { header.entries } else { 0 })
+}
+
+/// The slots of a reader at the first entry of a chunk, whose bytes, header first, are checked as the rest of a Deliver is.
+pub fn chunk_open(chunk: &[u8]) -> Result<ReaderSlots, Refusal> {
+    Ok([HEADER as u64, message_count(chunk)?.into(), 0, 0])
+}
+
+/// Place and length of the message of the next entry, and the slots moved past it; none if no entry is left.
+#[inline(always)]
+pub fn chunk_next(chunk: &[u8], reader: &mut ReaderSlots) -> Result<Option<(u64, u64)>, Refusal> {
+    let [at, left, _, _] = *reader;
+    if left == 0 {
+        return Ok(None);
+    }
+    let Some(rest) = usize::try_from(at).ok().and_then(|at| chunk.get(at..)) else {
+        return Err(Reason::Outside.into());
+    };
+    let (message, _) = next_entry(rest)?;
+    let (place, length) = (at + 4, message.len() as u64);
+    reader[0] = place + length;
+    reader[1] = left - 1;
+    Ok(Some((place, length)))
+}
+
 /// Gives the messages of a chunk in order, each once. Over types 1 and 2 it is done at once.
 #[derive(Clone, Debug)]
 pub struct ChunkReader<'a> {
@@ -218,8 +246,7 @@ pub struct ChunkReader<'a> {
 impl<'a> ChunkReader<'a> {
     /// `chunk` is a chunk's bytes, header first, checked as the rest of a Deliver is.
     pub fn new(chunk: &'a [u8]) -> Result<ChunkReader<'a>, Refusal> {
-        let header = check(chunk).map_err(|fault| Refusal::at(fault.reason, fault.place))?;
-        let left = if header.kind == 0 { header.entries } else { 0 };
+        let left = message_count(chunk)?;
         Ok(ChunkReader { data: &chunk[HEADER..], left })
     }
 }

@@ -15,7 +15,7 @@ mod writer;
 pub mod credit;
 pub mod publisher;
 
-pub use chunk::{ChunkReader, message};
+pub use chunk::{ChunkReader, chunk_next, chunk_open, message};
 pub use element::element;
 pub use layout::{Element, Fields, Null, Text, content, is_listed, keys, versions};
 pub use listing::{LIMIT, list};
@@ -30,6 +30,9 @@ pub type Frame = [u64; 24];
 
 /// The element of a list, its fields in slots like those of a frame.
 pub type ElementSlots = [u64; 8];
+
+/// A chunk reader: where the next entry begins, how many entries are left, and two slots that are kept for later use.
+pub type ReaderSlots = [u64; 4];
 
 /// Entry i is 0 for a closed id and its balance + 1 for an open one. Entry 256 belongs to no id.
 pub type Ledger = [u32; 257];

@@ -3,7 +3,7 @@
 mod common;
 
 use common::{flat, frame, hex, refusal};
-use reference::{ChunkReader, NULL, credit, element, message, publisher, read};
+use reference::{ChunkReader, NULL, chunk_next, chunk_open, credit, element, message, publisher, read};
 
 #[test]
 fn elements_of_every_shape() {
@@ -85,9 +85,43 @@ fn the_chunk_reader_gives_each_message_once() {
 }
 
 #[test]
+fn a_reader_in_slots_gives_each_message_once() {
+    let three = chunk(0, 3, &hex("00000002 4142 00000000 00000001 43"));
+    let mut reader = chunk_open(&three).unwrap();
+    assert_eq!(reader, [48, 3, 0, 0]);
+    for (message, slots) in [((52, 2), [54, 2, 0, 0]), ((58, 0), [58, 1, 0, 0]), ((62, 1), [63, 0, 0, 0])] {
+        assert_eq!(chunk_next(&three, &mut reader), Ok(Some(message)));
+        assert_eq!(reader, slots);
+    }
+    for _ in 0..2 {
+        assert_eq!(chunk_next(&three, &mut reader), Ok(None));
+        assert_eq!(reader, [63, 0, 0, 0]);
+    }
+}
+
+#[test]
+fn a_reader_that_the_host_made_up_gets_an_answer() {
+    let one = chunk(0, 1, &hex("00000001 41"));
+    let asked = |mut reader| (chunk_next(&one, &mut reader).map_err(|refusal| refusal.number()), reader);
+    for place in [0, 48, 53, 54, u64::MAX] {
+        assert_eq!(asked([place, 0, 8, 9]), (Ok(None), [place, 0, 8, 9]));
+    }
+    for place in [49, 50, 53, 54, 1 << 32, u64::MAX - 3, u64::MAX] {
+        assert_eq!(asked([place, 1, 8, 9]), (Err(6), [place, 1, 8, 9]));
+    }
+    let (left, fewer) = (u64::MAX, u64::MAX - 1);
+    assert_eq!(asked([48, left, 8, 9]), (Ok(Some((52, 1))), [53, fewer, 8, 9]));
+    let top_bit = chunk(0, 1, &hex("80000001 41"));
+    let mut reader = [48, 1, 8, 9];
+    assert_eq!(refusal(chunk_next(&top_bit, &mut reader)).0, 10);
+    assert_eq!(reader, [48, 1, 8, 9]);
+}
+
+#[test]
 fn the_chunk_reader_is_done_at_once_over_types_1_and_2() {
     for kind in [1, 2] {
         assert_eq!(ChunkReader::new(&chunk(kind, 3, b"packed")).unwrap().count(), 0);
+        assert_eq!(chunk_open(&chunk(kind, 3, b"packed")), Ok([48, 0, 0, 0]));
     }
 }
 
