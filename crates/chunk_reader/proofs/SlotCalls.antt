@@ -8,7 +8,7 @@ use types.Run.{OneOf, miss}
 use denote.Enum.Declared.{tagOf}
 use Rattle.protocol.specs.Fields.{Field}
 use Rattle.protocol.specs.declared.place.Place.{Place}
-use Rattle.rules.specs.Elements.{asked, numberOf}
+use Rattle.elements.specs.Questions.{asked, numberOf}
 use Rattle.rules.specs.Outcome.{Outcome, got, refused}
 use Rattle.rules.specs.Reading.{readChunk}
 use Rattle.flat.specs.Flat.{flatPlace, padded}

@@ -29,7 +29,8 @@ use Rattle.fields.specs.Cursor.{cursor, from, landed, foundOr, moved, blank, Re
 use Rattle.fields.specs.declared.cursor.Cursor.{Cursor}
 use Rattle.fields.proofs.Landing.{fresh}
 use Rattle.chunks.proofs.Entries.{EntryAt}
-use Rattle.chunk_reader.specs.Messages.{messageCount, isRefused, placeIn, messageIn}
+use Rattle.elements.specs.Found.{messageCount}
+use Rattle.chunk_reader.specs.Messages.{isRefused, placeIn, messageIn}
 use Rattle.chunk_reader.specs.Reader.{spot, startedFrom, started, behindEntry, advanced}
 use Rattle.chunk_reader.specs.declared.spot.Found.{Found}
 use Rattle.chunk_reader.specs.declared.spot.Found.the-variants.{Ready, Message, Done, Refused}

@@ -7,6 +7,7 @@ use Rattle.wire.specs.Integers.{digits}
 use Rattle.protocol.specs.Fields.{Field, place, bytesAt}
 use Rattle.protocol.specs.declared.chunk.ChunkHeader.{ChunkHeader}
 use Rattle.protocol.specs.declared.place.Place.{Place}
+use Rattle.elements.specs.Found.{messageCount}
 use Rattle.elements.specs.Questions.{partAt}
 use Rattle.rules.specs.Outcome.{Outcome, got, refused}
 use Rattle.rules.specs.Reading.{headerAt, hasEntries, readEntry, readChunk}
@@ -23,10 +24,6 @@ unfoldable pub messagesAt : ℕ → List ℕ → ℕ → List Place
 messagesAt zero s at = []
 messagesAt (suc n) s at = withNext (readEntry s at) (λ next. messagesAt n s next)
 
--- How many messages a chunk has: its entries, or none if it is of type 1 or 2.
-abbrev pub messageCount : ChunkHeader → ℕ
-messageCount h = cond (hasEntries (h .«chunk_type»)) (h .entries) 0
-
 -- The messages of a chunk: those of its entries, behind the 48 bytes of the header.
 abbrev pub messagesOf : List ℕ → List Place
 messagesOf s = messagesAt (messageCount (headerAt s 0)) s 48
@@ -34,11 +31,6 @@ messagesOf s = messagesAt (messageCount (headerAt s 0)) s 48
 -- Their bytes.
 abbrev pub messages : List ℕ → List (List ℕ)
 messages s = map (bytesAt s) (messagesOf s)
-
--- Messages as a chunk of type 0 has them: each behind the four bytes of its size.
-abbrev pub encodeEntries : List (List ℕ) → List ℕ
-encodeEntries [] = []
-encodeEntries (m ∷ ms) = (digits 4 (length m) ++ m) ++ encodeEntries ms
 
 -- The message with an index; Done behind the last one.
 abbrev pub messageOrDone : List Place → ℕ → Found
