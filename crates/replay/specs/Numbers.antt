@@ -20,3 +20,9 @@ hexValue b =
 unfoldable pub numberIn : ℕ → List ℕ → ℕ
 numberIn v [] = v
 numberIn v (b ∷ bs) = cond (between 0x30 0x39 b) (numberIn (v % 1000000000 * 10 + hexValue b) bs) v
+
+-- The bytes that pairs of hexadecimal digits make; a last digit without its second makes none.
+unfoldable pub octets : List ℕ → List ℕ
+octets [] = []
+octets (a ∷ []) = []
+octets (a ∷ b ∷ bs) = (hexValue a * 16 + hexValue b) ∷ octets bs

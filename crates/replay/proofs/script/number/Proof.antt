@@ -10,10 +10,10 @@ use Rattle.replay.proofs.script.number.Statement.{statement}
 use Rattle.replay.proofs.script.number.Tie as tie
 
 abbrev Inv-loop : tie.InvT-loop
-Inv-loop line from value₀ at₀ value at = numberIn 0 (drop from line) ≡ numberIn value (drop at line)
+Inv-loop text value₀ at₀ value at = numberIn 0 text ≡ numberIn value (drop at text)
 
 abbrev μ-loop : tie.MeasureT-loop
-μ-loop line from value₀ at₀ value at = length line - at
+μ-loop text value₀ at₀ value at = length text - at
 
 pub number-spec : {M : Type 1} → statement M
 number-spec =
@@ -32,10 +32,10 @@ number-spec =
     (λ c. search needs)
     (λ c. let l = c .before .before .before .before .before in
     l .loop .inv
-    ∙ number-more (now (l .before .before .args .line)) (l .loop .at) (l .loop .value) (c .digit .result) (c .before .before .before .before .loop-test .taken) (sym (c .before .before .between .ensures) ∙ c .before .if1 .taken) (c .digit .ensures .0))
+    ∙ number-more (now (l .before .before .args .text)) (l .loop .at) (l .loop .value) (c .digit .result) (c .before .before .before .before .loop-test .taken) (sym (c .before .before .between .ensures) ∙ c .before .if1 .taken) (c .digit .ensures .0))
     (λ c. let l = c .before .before .before .before in
     sym
     (l .loop .inv
-    ∙ number-stop (now (l .before .before .args .line)) (l .loop .at) (l .loop .value) (c .before .before .before .loop-test .taken) (sym (c .before .between .ensures) ∙ c .if1 .left)))
+    ∙ number-stop (now (l .before .before .args .text)) (l .loop .at) (l .loop .value) (c .before .before .before .loop-test .taken) (sym (c .before .between .ensures) ∙ c .if1 .left)))
     (λ c. let l = c .before in
-    sym (l .loop .inv ∙ number-end (now (l .before .before .args .line)) (l .loop .at) (l .loop .value) (c .loop-test .left))))
+    sym (l .loop .inv ∙ number-end (now (l .before .before .args .text)) (l .loop .at) (l .loop .value) (c .loop-test .left))))
