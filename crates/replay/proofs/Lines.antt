@@ -1,5 +1,5 @@
 -- What the code makes of a line's parts is what the line's call does. Assumes nothing.
-use Prim.Native.Nat.{ℕ, min, _≤_}
+use Prim.Native.Nat.{ℕ, min}
 use mathlib.Core.Path.{_≡_, refl, sym, ap, _∙_}
 use mathlib.Core.Bool.{Bool, true, false}
 use mathlib.Core.List.{List, _++_}
@@ -7,7 +7,7 @@ use native.Mathlib.Omega.{arith}
 use borrow.Author.Tests.{leb-true, leb-false}
 use lib.Dec.{leb}
 use lib.ListN.{length, take, drop}
-use lib.Seq.{take-all, take-length, take-at, length-take-le}
+use lib.Seq.{take-all, take-at, length-take-le}
 use Rattle.replay.specs.Words.{firstWord}
 use Rattle.replay.specs.Calls.{creditCall, publisherCall, creditsBy, publishersBy, first, second, bytesIn, creditsAfter, publishersAfter}
 use Rattle.replay.specs.declared.script.Word.{Word}

@@ -1,12 +1,12 @@
 -- Bytes from pairs of digits, put at the start of a buffer one after another. Assumes nothing.
-use Prim.Native.Nat.{ℕ, zero, suc, _+_, _*_, _/_, min, _≤_, _<_}
+use Prim.Native.Nat.{ℕ, zero, suc, _+_, _*_, _/_, _≤_, _<_}
 use mathlib.Core.Path.{_≡_, refl, sym, ap, ap₂, _∙_}
 use mathlib.Core.List.{List, [], _∷_, _++_}
 use native.Mathlib.Nat.{zero-add}
 use native.Mathlib.Numerals.{add-one}
 use native.Mathlib.Omega.{arith}
 use lib.ListN.{length, getD, take, drop, set}
-use lib.Seq.{paste-suc, length-take-le, take-at}
+use lib.Seq.{paste-suc, length-take-le}
 use Rattle.io.specs.Counts.{Counts}
 use Rattle.replay.specs.Numbers.{hexValue, octets}
 

@@ -1,9 +1,8 @@
 -- One text more, which passes or does not. Assumes nothing.
 use Prim.Native.Nat.{ℕ, _+_}
-use mathlib.Core.Path.{_≡_, sym, ap, _∙_}
-use mathlib.Core.Bool.{true, false, cond}
+use mathlib.Core.Path.{_≡_, sym, _∙_}
+use mathlib.Core.Bool.{true, false}
 use native.Mathlib.Nat.{add-zero}
-use Rattle.vectors.specs.Sums.{oneIf}
 use Rattle.vectors.specs.Texts.{passes, countBelow, numbersBelow}
 use Rattle.vectors.proofs.Sums.{sum-more}
 

@@ -1,13 +1,13 @@
 -- Each word makes its call.
 use Prim.Native.Nat.{ℕ}
 use mathlib.Core.List.{List}
-use mathlib.Core.Path.{_≡_, refl, sym, ap, _∙_}
+use mathlib.Core.Path.{_≡_, sym, ap, _∙_}
 use lib.ListN.{take}
 use denote.Ref.{now}
 use borrow.Author.Needs.{needs}
 use Rattle.replay.specs.Numbers.{numberIn, octets}
 use Rattle.replay.specs.Words.{afterSpace}
-use Rattle.replay.specs.Calls.{creditCall, publisherCall, creditsBy, publishersBy, first, second, bytesIn, creditsAfter, publishersAfter}
+use Rattle.replay.specs.Calls.{creditCall, publisherCall, creditsBy, publishersBy, first, second, creditsAfter, publishersAfter}
 use Rattle.replay.specs.declared.script.Word.{Word}
 use Rattle.replay.proofs.Lines.{after-line}
 use Rattle.replay.proofs.calls.call.Statement.{statement}

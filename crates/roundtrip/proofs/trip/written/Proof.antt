@@ -1,5 +1,5 @@
 -- By what writing answers.
-use mathlib.Core.Path.{_∙_, sym}
+use mathlib.Core.Path.{_∙_}
 use borrow.Author.Needs.{needs}
 use Rattle.roundtrip.specs.Trip.{space}
 use Rattle.roundtrip.proofs.Lengths.{after-writing}

@@ -1,7 +1,6 @@
 -- The invariant: the count is the sum over the keys below k. A key adds at most 5.
-use mathlib.Core.Path.{_≡_, _∙_, sym, ap, ap₂}
-use Prim.Native.Nat.{ℕ, _+_, _*_, _-_, _≤_}
-use native.Mathlib.Omega.{arith}
+use mathlib.Core.Path.{_≡_}
+use Prim.Native.Nat.{_*_, _-_, _≤_}
 use borrow.Author.Needs.{needs}
 use Rattle.vectors.specs.Sums.{sumBelow}
 use Rattle.vectors.specs.Keys.{refusedVersions}

@@ -1,10 +1,10 @@
 -- The invariant: count and sum are those of the texts below k, of which each adds at most 1 and at most 1,000.
-use mathlib.Core.Path.{_≡_, _∙_, sym, ap, ap₂}
+use mathlib.Core.Path.{_≡_, _∙_, sym, ap₂}
 use mathlib.Core.Logic.{⊎-elim}
 use Prim.Native.Nat.{_*_, _-_, _≤_}
 use borrow.Author.Needs.{needs}
 use Rattle.vectors.specs.Texts.{countBelow, numbersBelow}
-use Rattle.vectors.proofs.Sums.{sum-none, sum-more, sum-whole}
+use Rattle.vectors.proofs.Sums.{sum-none, sum-whole}
 use Rattle.vectors.proofs.Tally.{passed, failed}
 use Rattle.vectors.proofs.utf8.tally.Statement.{statement}
 use Rattle.vectors.proofs.utf8.tally.Tie as tie
