@@ -52,10 +52,10 @@ publishersBy l (some c) = publisherStep l c
 
 -- The two numbers of a line, and the bytes in the place of the second one, of which 4,096 are taken at most.
 abbrev pub first : List ℕ → ℕ
-first line = numberIn 0 (afterSpace line)
+first line = numberIn (afterSpace line)
 
 abbrev pub second : List ℕ → ℕ
-second line = numberIn 0 (afterSpace (afterSpace line))
+second line = numberIn (afterSpace (afterSpace line))
 
 abbrev pub bytesIn : List ℕ → List ℕ
 bytesIn line = take 4096 (octets (afterSpace (afterSpace line)))

@@ -1,5 +1,7 @@
 -- The words of a line.
-use Prim.Native.Nat.{ℕ}
+use Prim.Native.Char.{code}
+use Prim.Native.Nat.{ℕ, _+_, _*_}
+use Prim.Native.String.{String, [] as empty, _∷_ as _before_}
 use mathlib.Core.Bool.{cond}
 use mathlib.Core.List.{List, [], _∷_}
 use lib.Dec.{eqb, leb}
@@ -8,29 +10,24 @@ use Rattle.wire.specs.Integers.{bigEndian}
 use Rattle.replay.specs.declared.script.Word.{Word}
 use Rattle.replay.specs.declared.script.Word.the-variants.{Open, Grant, Close, Receive, Credit, Declare, Delete, Send, Confirm, Out, Unknown}
 
--- The word whose first four letters these are, in ASCII.
+-- Letters as a number: their ASCII codes are its bytes, after those of v.
+abbrev pub letters : ℕ → String → ℕ
+letters v empty = v
+letters v (c before s) = letters (v * 256 + code c) s
+
+-- The word whose first four letters these are.
 unfoldable pub wordOf : ℕ → Word
-wordOf letters =
-    -- "open"
-    cond (eqb letters 0x6f70_656e) Open
-    -- "grant"
-    (cond (eqb letters 0x6772_616e) Grant
-    -- "close"
-    (cond (eqb letters 0x636c_6f73) Close
-    -- "receive"
-    (cond (eqb letters 0x7265_6365) Receive
-    -- "credit"
-    (cond (eqb letters 0x6372_6564) Credit
-    -- "declare"
-    (cond (eqb letters 0x6465_636c) Declare
-    -- "delete"
-    (cond (eqb letters 0x6465_6c65) Delete
-    -- "send"
-    (cond (eqb letters 0x7365_6e64) Send
-    -- "confirm"
-    (cond (eqb letters 0x636f_6e66) Confirm
-    -- "out "
-    (cond (eqb letters 0x6f75_7420) Out
+wordOf n =
+    cond (eqb n (letters 0 "open")) Open
+    (cond (eqb n (letters 0 "gran")) Grant
+    (cond (eqb n (letters 0 "clos")) Close
+    (cond (eqb n (letters 0 "rece")) Receive
+    (cond (eqb n (letters 0 "cred")) Credit
+    (cond (eqb n (letters 0 "decl")) Declare
+    (cond (eqb n (letters 0 "dele")) Delete
+    (cond (eqb n (letters 0 "send")) Send
+    (cond (eqb n (letters 0 "conf")) Confirm
+    (cond (eqb n (letters 0 "out ")) Out
     Unknown)))))))))
 
 -- The word that a line begins with.

@@ -64,14 +64,14 @@ pub fn after_space(text: &[u8]) -> &[u8]
 
 // The decimal number whose digits the text begins with; of a longer one the last ten digits.
 pub fn number(text: &[u8]) -> u64
-    ensures { λ r. ⌜ r ≡ numberIn 0 (now (text .entry)) ⌝ }
+    ensures { λ r. ⌜ r ≡ numberIn (now (text .entry)) ⌝ }
 {
     let mut value: u64 = 0;
     let mut at = 0;
     while at < text.len() {
         let b = text[at];
         if between(0x30, 0x39, b) {
-            value = value % 1_000_000_000 * 10 + digit(b) as u64;
+            value = (value * 10 + digit(b) as u64) % 10_000_000_000;
             at += 1;
         } else {
             return value;

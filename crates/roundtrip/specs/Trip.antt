@@ -34,7 +34,8 @@ lengthBack s (writing.refusal n) out = 0
 unfoldable pub space : List ℕ
 space = replicate 65536 0
 
--- The length of a frame whose places are in s, if it is written as the bytes at the start of s; else 0.
+-- The length of a frame whose places are in s, if it is written as the bytes at the start of s and they are read as a
+-- frame; else 0.
 abbrev pub writtenBack : List ℕ → Fields Place → ℕ
 writtenBack s f = let w = writing.writeFrame f s 0 space in lengthBack s (w .answer) (w .out)
 

@@ -39,7 +39,8 @@ fn trip(s: &[u8]) -> usize
     }
 }
 
-// The length of a frame whose places are in s, if it is written as the bytes at the start of s; else 0.
+// The length of a frame whose places are in s, if it is written as the bytes at the start of s and they are read as a
+// frame; else 0.
 fn written(s: &[u8], frame: Frame) -> usize
     ensures { λ r. ⌜ r ≡ writtenBack (now (s .entry)) (fieldsOf frame) ⌝ }
     ensures { λ r. ⌜ r ≤ length (now (s .entry)) ⌝ }

@@ -37,7 +37,7 @@ fn passing(lead: u8, len: usize, texts: usize)
     text::decimal(a.sum % 65536);
 }
 
-// Of the texts of len bytes numbered below `texts`.
+// How many of the texts of len bytes numbered below `texts` pass, and the sum of their numbers.
 fn tally(lead: u8, len: usize, texts: usize) -> Accepted
     requires { ⌜ (len ≤ 4) × (texts ≤ 1000) ⌝ }
     ensures { λ r. ⌜ r ≡ accepted lead len texts ⌝ }

@@ -18,13 +18,13 @@ abbrev line : tie.After-first-word → List ℕ
 line c = now (c .before .before .before .before .before .before .args .line)
 
 first-number : (c : tie.After-first-word) → c .before .before .number .result ≡ first (line c)
-first-number c = c .before .before .number .ensures ∙ ap (numberIn 0) (c .before .before .before .before .after-space .ensures)
+first-number c = c .before .before .number .ensures ∙ ap numberIn (c .before .before .before .before .after-space .ensures)
 
 second-text : (c : tie.After-first-word) → now (c .before .before .before .after-space2 .result) ≡ afterSpace (afterSpace (line c))
 second-text c = c .before .before .before .after-space2 .ensures ∙ ap afterSpace (c .before .before .before .before .after-space .ensures)
 
 second-number : (c : tie.After-first-word) → c .before .number2 .result ≡ second (line c)
-second-number c = c .before .number2 .ensures ∙ ap (numberIn 0) (second-text c)
+second-number c = c .before .number2 .ensures ∙ ap numberIn (second-text c)
 
 made : (c : tie.After-first-word) (word : Word) (credits publishers : List ℕ) → c .first-word .result ≡ word
     → (creditsBy credits (creditCall word (c .before .before .number .result) (c .before .number2 .result) (take 4096 (octets (now (c .before .before .before .after-space2 .result))))) ≡ creditsAfter credits (line c))
