@@ -3,6 +3,9 @@ ghost use Prim.Native.Nat.{_≤_};
 ghost use mathlib.Core.Path.{_≡_};
 ghost use mathlib.Core.Bool.{cond};
 ghost use lib.ListN.{length};
+ghost use Rattle.rules.specs.Exactness.{frameLength};
+ghost use Rattle.rules.specs.Reading.{readFrame};
+ghost use Rattle.frame_vectors.specs.Answers.{used, needs, cutsNeeding};
 use crate::text;
 use fields::Cursor;
 use frame_reading::FrameRead;
@@ -38,7 +41,9 @@ pub fn longer(name: &[u8], limit: u32, bytes: &[u8]) {
 }
 
 // The frame's length, and its slots.
-fn accepted(bytes: &[u8], slots: [u64; 24]) {
+fn accepted(bytes: &[u8], slots: [u64; 24])
+    requires { ⌜ frameLength (now bytes) ≤ length (now bytes) ⌝ }
+{
     text::word(b" frame");
     text::decimal(total(bytes));
     text::hex(slots[0], 4);
@@ -52,8 +57,9 @@ fn numbers(slots: &[u64]) {
     }
 }
 
-// How many there are without the zeros behind the last one that is not 0.
+// How many there are without the zeros after the last one that is not 0.
 fn used(slots: &[u64]) -> usize
+    ensures { λ r. ⌜ r ≡ used (now (slots .entry)) ⌝ }
     ensures { λ r. ⌜ r ≤ length (now (slots .entry)) ⌝ }
 {
     let mut n = slots.len();
@@ -81,42 +87,41 @@ fn refused(number: u8, place: usize) {
 }
 
 // The length that a frame's Size gives.
-fn total(bytes: &[u8]) -> u64
-    ensures { λ r. ⌜ 4 ≤ r ⌝ }
-    ensures { λ r. ⌜ r ≤ 4294967299 ⌝ }
+fn total(frame: &[u8]) -> u64
+    requires { ⌜ 4 ≤ length (now frame) ⌝ }
+    ensures { λ r. ⌜ r ≡ frameLength (now (frame .entry)) ⌝ }
 {
-    let size = fields::u32_field(bytes, Cursor::within(0));
+    let size = fields::u32_field(frame, Cursor::within(0));
     size.value as u64 + 4
 }
 
-// How many of the cuts below 4 bytes need 4, and how many of the longer ones need the whole frame.
-fn cuts(name: &[u8], limit: u32, bytes: &[u8]) {
+// How many of the cuts below 4 bytes need 4, and how many of all cuts need the whole frame.
+fn cuts(name: &[u8], limit: u32, bytes: &[u8])
+    requires { ⌜ frameLength (now bytes) ≤ length (now bytes) ⌝ }
+{
     let whole = total(bytes);
+    let end = whole as usize;
     text::word(name);
     text::word(b" cuts");
-    if whole <= bytes.len() as u64 {
-        let end = whole as usize;
-        text::decimal(needing(limit, &bytes[0..4], 0, 4));
-        text::decimal(needing(limit, &bytes[0..end], 4, whole));
-    }
+    text::decimal(needing(limit, &bytes[0..4], 4));
+    text::decimal(needing(limit, &bytes[0..end], whole));
     text::word(b"\n");
 }
 
-// How many of the frame's cuts, from a length on, are short and need n bytes.
-fn needing(limit: u32, frame: &[u8], from: usize, n: u64) -> u64
-    ensures { λ r. ⌜ r ≤ length (now (frame .entry)) ⌝ }
+// How many of the frame's cuts are short and need n bytes.
+fn needing(limit: u32, frame: &[u8], n: u64) -> u64
+    ensures { λ r. ⌜ r ≡ cutsNeeding limit (now (frame .entry)) n (length (now (frame .entry))) ⌝ }
 {
     let mut count: u64 = 0;
-    let mut k = from;
-    while k < frame.len() {
+    for k in 0..frame.len() {
         count += short_of(limit, &frame[0..k], n);
-        k += 1;
     }
     count
 }
 
 // 1 if the cut is short and needs n bytes, else 0.
 fn short_of(limit: u32, cut: &[u8], n: u64) -> u64
+    ensures { λ r. ⌜ r ≡ needs n (readFrame (now (cut .entry)) limit) ⌝ }
     ensures { λ r. ⌜ r ≤ 1 ⌝ }
 {
     let mut slots = [0u64; 24];
@@ -131,8 +136,8 @@ fn short_of(limit: u32, cut: &[u8], n: u64) -> u64
 }
 
 fn one_if(t: bool) -> u64
-    ensures { λ r. ⌜ r ≤ 1 ⌝ }
     ensures { λ r. ⌜ r ≡ cond t 1 0 ⌝ }
+    ensures { λ r. ⌜ r ≤ 1 ⌝ }
 {
     if t { 1 } else { 0 }
 }

@@ -1,9 +1,11 @@
 // Asks a chunk reader five times over a chunk, and over the same chunk with one thing changed, and prints what it says:
 // the size of a message, "done", or "refused" and the number. The file `stdout` has what a reader written in Python
 // from the paper says of the same bytes.
+ghost use mathlib.Core.Path.{_≡_};
+ghost use Prim.Native.Nat.{_<_};
+ghost use lib.ListN.{set};
 use chunk_reader::Found;
 use libc::STDOUT_FILENO;
-use wire::Width;
 
 // A chunk of type 0 with three messages, of 5, 0 and 2 bytes.
 fn main() {
@@ -28,11 +30,21 @@ fn main() {
     cut(s, 0);
 }
 
-fn changed(s: &[u8], at: usize, byte: u64) {
-    let mut chunk = [0u8; 67];
-    wire::put_bytes(&mut chunk, 0, s, 0, 67);
-    wire::put_number(&mut chunk, at, Width::One, byte);
+fn changed(s: &[u8; 67], at: usize, byte: u8)
+    requires { ⌜ at < 67 ⌝ }
+{
+    let chunk = with_byte(s, at, byte);
     asked(&chunk);
+}
+
+// The chunk with another byte at a place.
+fn with_byte(s: &[u8; 67], at: usize, byte: u8) -> [u8; 67]
+    requires { ⌜ at < 67 ⌝ }
+    ensures { λ r. ⌜ r ≡ set (now (s .entry)) at byte ⌝ }
+{
+    let mut chunk = *s;
+    chunk[at] = byte;
+    chunk
 }
 
 fn cut(s: &[u8], len: usize) {

@@ -1,2 +1,6 @@
--- What the loops over a line have to show.
+-- What the code that reads a line has to show.
 mod Digits
+mod Octets
+mod Words
+mod Spaces
+mod Lines

@@ -16,7 +16,17 @@ hexValue b =
     (cond (between 0x61 0x66 b) (b - 0x57)
     0))
 
--- The number whose decimal digits a text begins with, behind digits that make v; of a longer one the last ten digits.
-unfoldable pub numberIn : ℕ → List ℕ → ℕ
-numberIn v [] = v
-numberIn v (b ∷ bs) = cond (between 0x30 0x39 b) (numberIn (v % 1000000000 * 10 + hexValue b) bs) v
+-- The number whose decimal digits a text begins with, after digits that make v.
+unfoldable pub numberFrom : ℕ → List ℕ → ℕ
+numberFrom v [] = v
+numberFrom v (b ∷ bs) = cond (between 0x30 0x39 b) (numberFrom (v * 10 + hexValue b) bs) v
+
+-- Of a longer number the last ten digits.
+abbrev pub numberIn : List ℕ → ℕ
+numberIn s = numberFrom 0 s % 10000000000
+
+-- The bytes that pairs of hexadecimal digits make; a last digit without its second makes none.
+unfoldable pub octets : List ℕ → List ℕ
+octets [] = []
+octets (a ∷ []) = []
+octets (a ∷ b ∷ bs) = (hexValue a * 16 + hexValue b) ∷ octets bs

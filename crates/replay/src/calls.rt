@@ -1,4 +1,10 @@
 // A call for each line.
+ghost use mathlib.Core.Path.{_≡_};
+ghost use lib.ListN.{take};
+ghost use Rattle.credit.specs.Calls.{received};
+ghost use Rattle.credit.specs.Step.{after};
+ghost use Rattle.replay.specs.Numbers.{octets};
+ghost use Rattle.replay.specs.Calls.{creditsAfter, publishersAfter};
 use crate::answers;
 use crate::script;
 use crate::script::Word;
@@ -14,17 +20,20 @@ pub fn replay(text: &[u8]) {
     }
 }
 
-fn call(line: &[u8], credits: &mut [u32; 257], publishers: &mut [u32; 257]) {
-    let first = script::behind(line, 0);
-    let second = script::behind(line, first);
-    let n = script::number(line, first);
+fn call(line: &[u8], credits: &mut [u32; 257], publishers: &mut [u32; 257])
+    ensures { λ _. ⌜ now (credits .exit) ≡ creditsAfter (now (credits .entry)) (now (line .entry)) ⌝ }
+    ensures { λ _. ⌜ now (publishers .exit) ≡ publishersAfter (now (publishers .entry)) (now (line .entry)) ⌝ }
+{
+    let first = script::after_space(line);
+    let second = script::after_space(first);
+    let n = script::number(first);
     let id = (n % 256) as u8;
-    let more = script::number(line, second);
+    let more = script::number(second);
     match script::first_word(line) {
         Word::Open => answers::change(credit::open(credits, id, (more % 65536) as u16)),
         Word::Grant => answers::change(credit::grant(credits, id, (more % 65536) as u16)),
         Word::Close => answers::change(credit::close(credits, id)),
-        Word::Receive => receive(line, credits, (n % 4294967296) as u32, second),
+        Word::Receive => receive(second, credits, (n % 4294967296) as u32),
         Word::Credit => answers::state(credit::state(credits, id)),
         Word::Declare => answers::change(publisher::declare(publishers, id)),
         Word::Delete => answers::change(publisher::delete(publishers, id)),
@@ -39,9 +48,12 @@ fn call(line: &[u8], credits: &mut [u32; 257], publishers: &mut [u32; 257]) {
     }
 }
 
-fn receive(line: &[u8], credits: &mut [u32; 257], limit: u32, from: usize) {
+// The text is the bytes of a frame.
+fn receive(text: &[u8], credits: &mut [u32; 257], limit: u32)
+    ensures { λ _. ⌜ now (credits .exit) ≡ after (now (credits .entry)) (received (take 4096 (octets (now (text .entry)))) limit) ⌝ }
+{
     let mut buffer = io::buffer();
-    let n = script::hex(line, from, &mut buffer);
+    let n = script::hex(text, &mut buffer);
     let mut slots = [0u64; 24];
     answers::received(receiving::receive(credits, &buffer[..n], limit, &mut slots));
 }

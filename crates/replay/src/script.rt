@@ -1,9 +1,11 @@
 // The parts of a line.
 ghost use mathlib.Core.Path.{_≡_};
-ghost use Prim.Native.Nat.{_≤_, _<_};
-ghost use lib.ListN.{length, drop};
+ghost use mathlib.Core.List.{_++_};
+ghost use Prim.Native.Nat.{min, _<_};
+ghost use lib.ListN.{length, take, drop};
 ghost use Rattle.io.specs.Counts.{Counts};
-ghost use Rattle.replay.specs.Numbers.{between, numberIn, hexValue};
+ghost use Rattle.replay.specs.Numbers.{between, numberIn, hexValue, octets};
+ghost use Rattle.replay.specs.Words.{wordOf, firstWord, afterSpace};
 use wire::Number;
 use wire::Width;
 
@@ -22,14 +24,18 @@ pub enum Word {
 }
 
 // The word that a line begins with: its first four letters tell it from the others.
-pub fn first_word(line: &[u8]) -> Word {
+pub fn first_word(line: &[u8]) -> Word
+    ensures { λ r. ⌜ r ≡ firstWord (now (line .entry)) ⌝ }
+{
     match wire::number_at(line, 0, Width::Four) {
         Number::Value(letters) => word_of(letters),
         Number::Cut => Word::Unknown,
     }
 }
 
-fn word_of(letters: u64) -> Word {
+fn word_of(letters: u64) -> Word
+    ensures { λ r. ⌜ r ≡ wordOf letters ⌝ }
+{
     match letters {
         0x6f70_656e => Word::Open,
         0x6772_616e => Word::Grant,
@@ -45,30 +51,27 @@ fn word_of(letters: u64) -> Word {
     }
 }
 
-// The place behind the next space from a place on, or the line's end.
-pub fn behind(line: &[u8], from: usize) -> usize
-    ensures { λ r. ⌜ r ≤ length (now (line .entry)) ⌝ }
+// What follows the first space; nothing where there is none.
+pub fn after_space(text: &[u8]) -> &[u8]
+    ensures { λ r. ⌜ now r ≡ afterSpace (now (text .entry)) ⌝ }
 {
-    if line.len() < from {
-        return line.len();
+    let at = bytes::scan::find(text, 0, text.len(), 0x20);
+    if at < text.len() {
+        return &text[at + 1..];
     }
-    let at = bytes::scan::find(line, from, line.len(), 0x20);
-    if at < line.len() {
-        return at + 1;
-    }
-    at
+    &text[at..]
 }
 
-// The decimal number whose digits begin at a place; of a longer one the last ten digits.
-pub fn number(line: &[u8], from: usize) -> u64
-    ensures { λ r. ⌜ r ≡ numberIn 0 (drop from (now (line .entry))) ⌝ }
+// The decimal number whose digits the text begins with; of a longer one the last ten digits.
+pub fn number(text: &[u8]) -> u64
+    ensures { λ r. ⌜ r ≡ numberIn (now (text .entry)) ⌝ }
 {
     let mut value: u64 = 0;
-    let mut at = from;
-    while at < line.len() {
-        let b = line[at];
+    let mut at = 0;
+    while at < text.len() {
+        let b = text[at];
         if between(0x30, 0x39, b) {
-            value = value % 1_000_000_000 * 10 + digit(b) as u64;
+            value = (value * 10 + digit(b) as u64) % 10_000_000_000;
             at += 1;
         } else {
             return value;
@@ -86,46 +89,24 @@ fn between(low: u8, high: u8, b: u8) -> bool
     b <= high
 }
 
-// Puts the bytes whose hexadecimal digits stand from a place on at the start of out, as many as there is room for, and
-// answers how many.
-pub fn hex(line: &[u8], from: usize, out: &mut [u8]) -> usize
+// Puts the bytes whose hexadecimal digits the text is at the start of out, as many as there is room for, and answers how
+// many.
+pub fn hex(text: &[u8], out: &mut [u8]) -> usize
+    ensures { λ r. ⌜ r ≡ min (length (octets (now (text .entry)))) (length (now (out .entry))) ⌝ }
+    ensures { λ r. ⌜ now (out .exit) ≡ take r (octets (now (text .entry))) ++ drop r (now (out .entry)) ⌝ }
     ensures { λ r. ⌜ Counts r (now (out .exit)) ⌝ }
 {
-    let n = pairs(line, from, out.len());
-    let mut i = 0;
-    while i < n {
-        out[i] = octet(line, from, i);
-        i += 1;
+    let n = least(text.len() / 2, out.len());
+    for i in 0..n {
+        out[i] = digit(text[i * 2]) * 16 + digit(text[i * 2 + 1]);
     }
     n
 }
 
-// How many pairs of digits stand from a place on, if there is room for them.
-fn pairs(line: &[u8], from: usize, room: usize) -> usize
-    ensures { λ r. ⌜ r ≤ room ⌝ }
+fn least(a: usize, b: usize) -> usize
+    ensures { λ r. ⌜ r ≡ min a b ⌝ }
 {
-    if line.len() < from {
-        return 0;
-    }
-    let n = (line.len() - from) / 2;
-    if room < n {
-        return room;
-    }
-    n
-}
-
-// The byte of pair i, or 0 where there is none.
-fn octet(line: &[u8], from: usize, i: usize) -> u8 {
-    if line.len() < from {
-        return 0;
-    }
-    if line.len() - from < 2 {
-        return 0;
-    }
-    if (line.len() - from - 2) / 2 < i {
-        return 0;
-    }
-    digit(line[from + i * 2]) * 16 + digit(line[from + i * 2 + 1])
+    if a < b { a } else { b }
 }
 
 // A hexadecimal digit's value; any other byte counts as 0.

@@ -1,5 +1,8 @@
 // Every key with versions 0, 1, 2, 3 and 65,535: the pairs that have a layout, and how many have none, and why.
-ghost use Prim.Native.Nat.{_<_};
+ghost use mathlib.Core.Path.{_≡_};
+ghost use Prim.Native.Nat.{_≤_};
+ghost use Rattle.protocol.specs.Decision.{decide};
+ghost use Rattle.vectors.specs.Keys.{refusalOf, refused, refusedVersions, refusedPairs};
 use crate::text;
 use protocol::Decided;
 use protocol::refusal;
@@ -14,7 +17,7 @@ pub fn run() {
 
 fn listed() {
     for k in 0..65536u32 {
-        let key = (k % 65536) as u16;
+        let key = k as u16;
         show(key, 0);
         show(key, 1);
         show(key, 2);
@@ -33,28 +36,41 @@ fn show(key: u16, version: u16) {
 }
 
 // How many of the pairs are refused with a number.
-fn refusals(number: u8) -> u64 {
+fn refusals(number: u8) -> u64
+    ensures { λ r. ⌜ r ≡ refusedPairs number ⌝ }
+{
     let mut count: u64 = 0;
     for k in 0..65536u32 {
-        let key = (k % 65536) as u16;
-        let more = one_if(answer(key, 0) == number)
-            + one_if(answer(key, 1) == number)
-            + one_if(answer(key, 2) == number)
-            + one_if(answer(key, 3) == number)
-            + one_if(answer(key, 65535) == number);
-        count = (count + more) % 1000000;
+        let key = k as u16;
+        count += refused_versions(number, key);
     }
     count
 }
 
-fn one_if(t: bool) -> u64
-    ensures { λ r. ⌜ r < 2 ⌝ }
+// How many of a key's versions are refused with a number.
+fn refused_versions(number: u8, key: u16) -> u64
+    ensures { λ r. ⌜ r ≡ refusedVersions number key ⌝ }
+    ensures { λ r. ⌜ r ≤ 5 ⌝ }
 {
-    if t { 1 } else { 0 }
+    refused(number, key, 0)
+        + refused(number, key, 1)
+        + refused(number, key, 2)
+        + refused(number, key, 3)
+        + refused(number, key, 65535)
+}
+
+// 1 if a key and a version are refused with a number, else 0.
+fn refused(number: u8, key: u16, version: u16) -> u64
+    ensures { λ r. ⌜ r ≡ refused number key version ⌝ }
+    ensures { λ r. ⌜ r ≤ 1 ⌝ }
+{
+    if answer(key, version) == number { 1 } else { 0 }
 }
 
 // The refusal number, or 0 where there is a layout.
-fn answer(key: u16, version: u16) -> u8 {
+fn answer(key: u16, version: u16) -> u8
+    ensures { λ r. ⌜ r ≡ refusalOf (decide key version) ⌝ }
+{
     let picked = protocol::layout_of(key, version);
     let decided = picked.decided;
     match decided {

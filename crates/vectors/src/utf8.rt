@@ -1,4 +1,7 @@
 // Every leading byte, followed by up to three bytes at the edges of the ranges that RFC 3629 names.
+ghost use mathlib.Core.Path.{_≡_};
+ghost use Prim.Native.Nat.{_≤_};
+ghost use Rattle.vectors.specs.Texts.{edge, passes, accepted};
 use crate::text;
 
 const EDGES: [u8; 10] = [0x00, 0x7f, 0x80, 0x8f, 0x90, 0x9f, 0xa0, 0xbf, 0xc0, 0xff];
@@ -8,10 +11,11 @@ struct Accepted {
     sum: u64,
 }
 
-// A line for each leading byte: for each number of bytes behind it how many texts pass, and the sum of their numbers.
+// A line for each leading byte: for each number of bytes behind it how many texts pass, and the sum of their numbers
+// modulo 65,536.
 pub fn run() {
     for lead in 0..256u32 {
-        behind((lead % 256) as u8);
+        behind(lead as u8);
     }
 }
 
@@ -25,48 +29,45 @@ fn behind(lead: u8) {
     text::line();
 }
 
-fn passing(lead: u8, len: usize, texts: usize) {
+fn passing(lead: u8, len: usize, texts: usize)
+    requires { ⌜ (len ≤ 4) × (texts ≤ 1000) ⌝ }
+{
     let a = tally(lead, len, texts);
     text::decimal(a.count);
-    text::decimal(a.sum);
+    text::decimal(a.sum % 65536);
 }
 
-// Of the texts of len bytes numbered below `texts`.
-fn tally(lead: u8, len: usize, texts: usize) -> Accepted {
-    let mut a = Accepted { count: 0, sum: 0 };
-    let mut k: usize = 0;
-    while k < texts {
-        a = counted(a, passes(lead, len, k), k);
-        k += 1;
-    }
-    a
-}
-
-fn counted(a: Accepted, passes: bool, k: usize) -> Accepted {
-    if passes {
-        Accepted {
-            count: (a.count % 65536 + 1) % 65536,
-            sum: (a.sum % 65536 + (k % 65536) as u64) % 65536,
+// How many of the texts of len bytes numbered below `texts` pass, and the sum of their numbers.
+fn tally(lead: u8, len: usize, texts: usize) -> Accepted
+    requires { ⌜ (len ≤ 4) × (texts ≤ 1000) ⌝ }
+    ensures { λ r. ⌜ r ≡ accepted lead len texts ⌝ }
+{
+    let mut count: u64 = 0;
+    let mut sum: u64 = 0;
+    for k in 0..texts {
+        if passes(lead, len, k) {
+            count += 1;
+            sum += k as u64;
         }
-    } else {
-        a
+    }
+    Accepted {
+        count: count,
+        sum: sum,
     }
 }
 
 // Text number k: its decimal digits, the lowest first, choose the edges.
-fn passes(lead: u8, len: usize, k: usize) -> bool {
-    let text = [lead, edge(k % 10), edge(k / 10 % 10), edge(k / 100 % 10)];
-    first_pass(&text, len)
+fn passes(lead: u8, len: usize, k: usize) -> bool
+    requires { ⌜ len ≤ 4 ⌝ }
+    ensures { λ r. ⌜ r ≡ passes lead len k ⌝ }
+{
+    let text = [lead, edge(k), edge(k / 10), edge(k / 100)];
+    unicode::is_utf8(&text[0..len])
 }
 
-fn first_pass(text: &[u8], len: usize) -> bool {
-    if len <= text.len() {
-        unicode::is_utf8(&text[0..len])
-    } else {
-        false
-    }
-}
-
-fn edge(i: usize) -> u8 {
-    EDGES[i % 10]
+// The edge that a number's last digit chooses.
+fn edge(n: usize) -> u8
+    ensures { λ r. ⌜ r ≡ edge n ⌝ }
+{
+    EDGES[n % 10]
 }

@@ -1,15 +1,19 @@
--- A cut adds at most one, and is longer than those before it. Assumes nothing.
-use Prim.Native.Nat.{_≤_, _-_}
+-- The invariant: the count is that of the cuts shorter than k.
+use mathlib.Core.Path.{_≡_}
+use Prim.Native.Nat.{_-_, _≤_}
+use native.Mathlib.Nat.{sub-zero}
 use lib.ListN.{length}
+use Rattle.frame_vectors.specs.Answers.{cutsNeeding}
+use Rattle.frame_vectors.proofs.Cuts.{no-cuts, one-cut, all-cuts}
 use borrow.Author.Needs.{needs}
 use Rattle.frame_vectors.proofs.answer.needing.Statement.{statement}
 use Rattle.frame_vectors.proofs.answer.needing.Tie as tie
 
 abbrev Inv-loop : tie.InvT-loop
-Inv-loop limit frame from n count₀ k₀ count k = (count ≤ k) × (count ≤ length frame)
+Inv-loop limit frame n count₀ k₀ k-end count k = ((k ≤ length frame) × (k-end ≡ length frame) × (count ≤ k)) × (count ≡ cutsNeeding limit frame n k)
 
 abbrev μ-loop : tie.MeasureT-loop
-μ-loop limit frame from n count₀ k₀ count k = length frame - k
+μ-loop limit frame n count₀ k₀ k-end count k = length frame - k
 
 pub needing-spec : {M : Type 1} → statement M
 needing-spec =
@@ -17,7 +21,7 @@ needing-spec =
     (tie.spec
     Inv-loop
     μ-loop
-    (λ c. search needs)
+    (λ c. ((search needs, search needs, search needs), no-cuts _ _ _))
     (λ c. search needs)
     (λ c. search needs)
     (λ c. search needs)
@@ -25,5 +29,7 @@ needing-spec =
     (λ c. search needs)
     (λ c. search needs)
     (λ c. search needs)
-    (λ c. search needs)
-    (λ c. search needs))
+    (λ c. let l = c .before .before .before .loop in
+    ((search needs, search needs, search needs), one-cut _ _ _ (l .k) (l .count) _ (l .inv .1) (rw sub-zero at (c .short-of .ensures .0))))
+    (λ c. let l = c .before .loop in
+    all-cuts _ _ _ (l .k) _ (l .count) (l .inv .1) (search needs) (search needs)))

@@ -1,12 +1,16 @@
--- There are at most as many as there are numbers.
+-- The invariant: all slots from n on are 0.
+use mathlib.Core.Path.{_≡_, sym, ap, _∙_}
 use Prim.Native.Nat.{_≤_}
-use lib.ListN.{length}
+use lib.ListN.{length, take}
+use lib.Seq.{take-length}
+use Rattle.frame_vectors.specs.Answers.{used}
+use Rattle.frame_vectors.proofs.Used.{used-less, used-up, used-none}
 use borrow.Author.Needs.{needs}
 use Rattle.frame_vectors.proofs.answer.used.Statement.{statement}
 use Rattle.frame_vectors.proofs.answer.used.Tie as tie
 
 abbrev Inv-loop : tie.InvT-loop
-Inv-loop slots n₀ n = n ≤ length slots
+Inv-loop slots n₀ n = (n ≤ length slots) × (used slots ≡ used (take n slots))
 
 abbrev μ-loop : tie.MeasureT-loop
 μ-loop slots n₀ n = n
@@ -17,12 +21,15 @@ used-spec =
     (tie.spec
     Inv-loop
     μ-loop
+    (λ c. (search needs, ap used (sym (take-length _))))
     (λ c. search needs)
     (λ c. search needs)
     (λ c. search needs)
+    (λ c. let l = c .before .before .before in
+    (sym (l .loop .inv .1 ∙ used-up _ (l .loop .n) (search needs) (search needs) (c .if1 .taken)), search needs))
     (λ c. search needs)
     (λ c. search needs)
-    (λ c. search needs)
-    (λ c. search needs)
-    (λ c. search needs)
-    (λ c. search needs))
+    (λ c. let l = c .before .before .before in
+    (search needs, l .loop .inv .1 ∙ used-less _ (l .loop .n) (search needs) (search needs) (c .if1 .left)))
+    (λ c. let l = c .before .loop in
+    (sym (l .inv .1 ∙ used-none _ (l .n) (search needs)), search needs)))

@@ -1,13 +1,15 @@
--- The number stays below 2^32, and the loop counts up to the slice's length. Assumes nothing.
-use Prim.Native.Nat.{_≤_, _<_, _-_}
-use lib.ListN.{length}
-use mathlib.Core.Path.{_≡_}
+-- The invariant: what is left from i on makes the number what the whole makes it, modulo 2^32.
+use mathlib.Core.Path.{_≡_, refl, sym, _∙_}
+use Prim.Native.Nat.{_-_, _%_, _≤_, _<_}
+use lib.ListN.{length, drop}
+use Rattle.frame_vectors.specs.Digits.{numberFrom}
+use Rattle.frame_vectors.proofs.Digits.{number-more, number-end}
 use borrow.Author.Needs.{needs}
 use Rattle.frame_vectors.proofs.line.decimal.Statement.{statement}
 use Rattle.frame_vectors.proofs.line.decimal.Tie as tie
 
 abbrev Inv-loop : tie.InvT-loop
-Inv-loop text n₀ i₀ i-end n i = (i ≤ length text) × ((i-end ≡ length text) × (n < 4294967296))
+Inv-loop text n₀ i₀ i-end n i = ((i ≤ length text) × (i-end ≡ length text) × (n < 4294967296)) × (numberFrom 0 text % 4294967296 ≡ numberFrom n (drop i text) % 4294967296)
 
 abbrev μ-loop : tie.MeasureT-loop
 μ-loop text n₀ i₀ i-end n i = length text - i
@@ -18,7 +20,7 @@ decimal-spec =
     (tie.spec
     Inv-loop
     μ-loop
-    (λ c. search needs)
+    (λ c. ((search needs, search needs, search needs), refl))
     (λ c. search needs)
     (λ c. search needs)
     (λ c κs. search needs)
@@ -26,6 +28,8 @@ decimal-spec =
     (λ c. search needs)
     (λ c. search needs)
     (λ c. search needs)
+    (λ c. let l = c .before .before .before in
+    ((search needs, search needs, search needs), l .loop .inv .1 ∙ number-more _ (l .loop .i) (l .loop .n) (c .digit .result) (search needs) (c .digit .ensures .0)))
     (λ c. search needs)
-    (λ c. search needs)
-    (λ c. search needs))
+    (λ c. let l = c .before .loop in
+    sym (l .inv .1 ∙ number-end _ (l .i) (l .n) (search needs) (search needs))))

@@ -1,4 +1,4 @@
--- By whether the digit is a letter. Assumes nothing.
+-- By whether the digit is a letter.
 use borrow.Author.Tests.{lt-ltb, le-ltb}
 use borrow.Author.Needs.{needs}
 use Rattle.frame_vectors.proofs.line.digit.Statement.{statement}
@@ -9,5 +9,5 @@ digit-spec =
     tie.close
     (tie.spec
     (λ c. search needs)
-    (λ c. (search needs, rw (lt-ltb _ _ (c .if1 .taken))))
-    (λ c. (search needs, rw (le-ltb _ _ (c .if1 .left)))))
+    (λ c. (rw (lt-ltb _ _ (c .if1 .taken)), search needs))
+    (λ c. (rw (le-ltb _ _ (c .if1 .left)), search needs)))

@@ -1,7 +1,10 @@
--- The byte goes where there is room for it, so the place behind it does not pass the end. Assumes nothing.
+-- By whether there is room.
+use mathlib.Core.Path.{refl, sym}
 use lib.ListN.{length-set}
-use borrow.Author.Needs.{needs}
+use lib.Seq.{set-out}
+use borrow.Author.Tests.{lt-ltb, le-ltb}
 use Rattle.frame_vectors.proofs.Counting.{counts}
+use borrow.Author.Needs.{needs}
 use Rattle.frame_vectors.proofs.line.one_more.Statement.{statement}
 use Rattle.frame_vectors.proofs.line.one_more.Tie as tie
 
@@ -12,5 +15,5 @@ one-more-spec =
     (λ c. search needs)
     (λ c. search needs)
     (λ c. search needs)
-    (λ c. counts _ _ (simp length-set (search needs)))
-    (λ c. search needs))
+    (λ c. (rw (lt-ltb _ _ (c .if1 .taken)), (refl, counts _ _ (simp length-set (search needs)))))
+    (λ c. (rw (le-ltb _ _ (c .if1 .left)), (sym (set-out _ _ _ (c .if1 .left)), search needs))))

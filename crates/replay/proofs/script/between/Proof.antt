@@ -1,5 +1,4 @@
 -- Each way out by its tests.
-use mathlib.Core.Path.{sym}
 use borrow.Author.Tests.{lt-ltb, le-ltb}
 use Rattle.replay.proofs.script.between.Statement.{statement}
 use Rattle.replay.proofs.script.between.Tie as tie

@@ -1,22 +1,22 @@
--- The loop counts up, and a store leaves the length.
-use mathlib.Core.Path.{_≡_, refl, sym, _∙_}
-use mathlib.Core.List.{List}
-use Prim.Native.Nat.{ℕ, _≤_, _-_, min}
+-- The invariant: the first i bytes are there, and after them out is as it was.
+use mathlib.Core.Path.{_≡_, refl, sym, ap, ap₂, _∙_}
+use mathlib.Core.List.{_++_}
+use Prim.Native.Nat.{_+_, _-_, _*_, min, _≤_, _<_}
 use native.Mathlib.Omega.{arith}
-use lib.ListN.{length, length-set, take, length-take}
+use denote.Ref.{now}
+use lib.ListN.{length, take, drop, length-set}
+use Rattle.replay.specs.Numbers.{octets}
+use Rattle.replay.proofs.Octets.{counts}
+use Rattle.replay.proofs.Octets.{length-octets, octet-at, put-more}
 use borrow.Author.Needs.{needs}
-use Rattle.io.specs.Counts.{Counts}
 use Rattle.replay.proofs.script.hex.Statement.{statement}
 use Rattle.replay.proofs.script.hex.Tie as tie
 
 abbrev Inv-loop : tie.InvT-loop
-Inv-loop line from out₀ n i₀ out i = (i ≤ n) × (length out ≡ length out₀)
+Inv-loop text out₀ n i₀ out i = ((i ≤ n) × (length out ≡ length out₀)) × (out ≡ take i (octets text) ++ drop i out₀)
 
 abbrev μ-loop : tie.MeasureT-loop
-μ-loop line from out₀ n i₀ out i = n - i
-
-counts : (n : ℕ) (xs : List ℕ) → n ≤ length xs → Counts n xs
-counts n xs h = let e : min n (length xs) ≡ n = omega (arith, h) in (h, sym (length-take n xs ∙ e))
+μ-loop text out₀ n i₀ out i = n - i
 
 pub hex-spec : {M : Type 1} → statement M
 hex-spec =
@@ -25,11 +25,36 @@ hex-spec =
     Inv-loop
     μ-loop
     (λ c κs. search needs)
-    (λ c. (search needs, refl))
+    (λ c. ((search needs, refl), refl))
+    (λ c. search needs)
+    (λ c. search needs)
     (λ c κs. search needs)
     (λ c. search needs)
     (λ c. search needs)
     (λ c. search needs)
-    (λ c. (search needs, simp length-set (c .before .before .loop .inv .1)))
     (λ c. search needs)
-    (λ c. counts _ _ (search needs)))
+    (λ c κs. search needs)
+    (λ c. search needs)
+    (λ c. search needs)
+    (λ c. search needs)
+    (λ c. search needs)
+    (λ c.
+    let l = c .before .before .before .before .before in
+    let a = l .before .before .before .before .args in
+    let text = now (a .text) in
+    let i = l .loop .i in
+    let there : i < length (octets text) = omega (arith, length-octets text) in
+    let octet = ap₂ (λ x y. x * 16 + y) (c .before .before .digit .ensures .0) (c .digit2 .ensures .0) ∙ octet-at text i (search needs) in
+    ((search needs, simp length-set (l .loop .inv .0 .1)), put-more (now (a .out)) (octets text) _ i _ (search needs) there (l .loop .inv .1) octet))
+    (λ c. search needs)
+    (λ c.
+    let l = c .before in
+    let a = l .before .before .before .before .args in
+    let n = l .before .least .result in
+    let e : l .loop .i ≡ n = omega arith in (
+      l .before .least .ensures ∙ ap (λ m. min m (length (now (a .out)))) (sym (length-octets (now (a .text)))),
+      (
+        l .loop .inv .1 ∙ ap (λ m. take m (octets (now (a .text))) ++ drop m (now (a .out))) e,
+        counts _ _ (search needs),
+      ),
+    )))

@@ -1,4 +1,4 @@
--- The loop goes from frame to frame, and no frame is longer than what is left.
+-- The loop goes from frame to frame, and no frame is longer than what is left. Each has a byte at least.
 use Prim.Native.Nat.{_≤_, _-_}
 use lib.ListN.{length}
 use borrow.Author.Needs.{needs}
@@ -6,7 +6,7 @@ use Rattle.roundtrip.proofs.trip.walk.Statement.{statement}
 use Rattle.roundtrip.proofs.trip.walk.Tie as tie
 
 abbrev Inv-loop : tie.InvT-loop
-Inv-loop s at₀ frames₀ at frames = at ≤ length s
+Inv-loop s at₀ frames₀ at frames = (at ≤ length s) × (frames ≤ at)
 
 abbrev μ-loop : tie.MeasureT-loop
 μ-loop s at₀ frames₀ at frames = length s - at

@@ -1,0 +1,3 @@
+-- What comparing bytes has to show, and what follows from each answer.
+mod SameBytes
+mod Lengths

@@ -1,0 +1,2 @@
+-- When a frame comes back as it was.
+pub mod Trip
