@@ -21,9 +21,9 @@ receive-spec =
     let told = c .before .before in
     let read = told .before .before in
     let credit = read .before .before in
-    handed _ _ _ _ _ (told .enum-told .given .1) (read .read .ensures .0) _ _ (read .read .ensures .1)
+    handed _ _ _ _ _ (told .enum-told .given .1) (read .read .ensures .0) _ _ (read .read .ensures .1 .0)
     _ _ (credit .before .before .before .subscription-of .ensures) (c .spend .ensures .1) (sym (credit .before .affords .ensures) ∙ credit .if1 .taken))
-    (λ c. not-read _ _ _ _ _ _ (c .before .read .ensures .0) (c .before .read .ensures .1) (c .match .keys2))
+    (λ c. not-read _ _ _ _ _ _ (c .before .read .ensures .0) (c .before .read .ensures .1 .0) (c .match .keys2))
     (λ c κs. search needs)
     (λ c. search needs)
     (λ c κs. search needs)
@@ -33,7 +33,7 @@ receive-spec =
     let told = spend .before .before in
     let read = told .before .before in
     let subscription = read .before .before .before .before .before in
-    refused _ _ _ _ _ (told .enum-told2 .given .1) (read .read2 .ensures .0) _ _ (read .read2 .ensures .1)
+    refused _ _ _ _ _ (told .enum-told2 .given .1) (read .read2 .ensures .0) _ _ (read .read2 .ensures .1 .0)
     _ _ (subscription .subscription-of .ensures) (spend .spend2 .ensures .1) _ (sym (ap numberOf (c .before .number .given .1)) ∙ spend .spend2 .ensures .0))
     (λ c. search needs)
     (λ c.

@@ -21,7 +21,7 @@ read-spec =
     let read = told .before .before in
     let known = read .before .before in
     let bytes : Bytes (now (known .before .args .bytes)) = λ i. omega (arith, known .shared-slice-known .given i) in
-    read-listed _ _ _ _ bytes (sym (told .enum-told .given .1) ∙ read .read .ensures .0) (read .read .ensures .1))
+    read-listed _ _ _ _ bytes (sym (told .enum-told .given .1) ∙ read .read .ensures .0) (read .read .ensures .1 .0))
     (λ c. search needs)
     (λ c. search needs)
     (λ c.
@@ -29,6 +29,6 @@ read-spec =
     let read = told .before .before in
     let known = read .before .before in
     let bytes : Bytes (now (known .before .args .bytes)) = λ i. omega (arith, known .shared-slice-known .given i) in
-    read-typed _ _ _ _ bytes (sym (told .enum-told .given .1) ∙ read .read .ensures .0) (read .read .ensures .1) _ (c .frame-of .ensures))
+    read-typed _ _ _ _ bytes (sym (told .enum-told .given .1) ∙ read .read .ensures .0) (read .read .ensures .1 .0) _ (c .frame-of .ensures))
     (λ c. short-told _ _ (sym (c .before .needed .given .1) ∙ c .before .before .before .read .ensures .0))
     (λ c. refusal-told _ _ _ (sym (c .before .number .given .1) ∙ c .before .before .before .read .ensures .0)))
