@@ -34,12 +34,12 @@ use Rattle.fast_writing.proofs.Eights.{eight}
 module _ (src : List ℕ) (at len : ℕ) where
   pub text-written : IsText src at len 0x7fff → writeString Text false src (some (place at len)) ≡ wrote (digits 2 len ++ take len (drop at src))
   text-written t =
-      string-bytes Text false src (place at len) (omega (arith, t .short)) refl (le-ltb (length src) (at + len) (t .there)) (t .text)
+      string-bytes Text false src (place at len) (omega (arith, t .short)) refl (le-ltb (length src) (at + len) (t .part .there)) (t .text)
 
   pub reference-written : IsText src at len 256 → writeString Reference true src (unflatOctets true at len) ≡ wrote (digits 2 len ++ take len (drop at src))
   reference-written t =
       rw (ne-eqb len 18446744073709551615 (λ e. omega (arith, e, t .short)))
-      (string-bytes Reference true src (place at len) (omega (arith, t .short)) (le-ltb 256 len (t .short)) (le-ltb (length src) (at + len) (t .there)) (t .text))
+      (string-bytes Reference true src (place at len) (omega (arith, t .short)) (le-ltb 256 len (t .short)) (le-ltb (length src) (at + len) (t .part .there)) (t .text))
 
   module _ (part : IsPart src at len) where
     pub part-long : length (take len (drop at src)) ≡ len
@@ -161,7 +161,7 @@ module _ (s src : List ℕ) where
 
     pub declare-row : slot s 2 ≤ 0xffff_ffff → slot s 3 ≤ 0xff → Encodes (rowWritten 0x0001 s src) declared (13 + slot s 5 + slot s 7)
     declare-row a b =
-        let l : length (joined declared) ≡ 4 + (1 + (2 + (slot s 5 + (2 + (slot s 7 + 0))))) = number-front 4 (slot s 2) _ _ (number-front 1 (slot s 3) _ _ (number-front 2 (slot s 5) _ _ (part-front reference _ (slot s 5) _ (part-length [] 0 src (slot s 4) (slot s 5) (t .there)) (number-front 2 (slot s 7) _ _ (part-front declaredStream [] (slot s 7) 0 (part-length [] 0 src (slot s 6) (slot s 7) (u .there)) refl))))) in
+        let l : length (joined declared) ≡ 4 + (1 + (2 + (slot s 5 + (2 + (slot s 7 + 0))))) = number-front 4 (slot s 2) _ _ (number-front 1 (slot s 3) _ _ (number-front 2 (slot s 5) _ _ (part-front reference _ (slot s 5) _ (part-length [] 0 src (slot s 4) (slot s 5) (t .part .there)) (number-front 2 (slot s 7) _ _ (part-front declaredStream [] (slot s 7) 0 (part-length [] 0 src (slot s 6) (slot s 7) (u .part .there)) refl))))) in
         record { is = declare-written a b; sized = omega (arith, l) }
 
   -- A subscription from an offset.
@@ -194,5 +194,5 @@ module _ (s src : List ℕ) where
 
       pub subscribe-row : Encodes (rowWritten 0x0007 s src) subscribed (27 + slot s 5 + slot s 11)
       subscribe-row =
-          let l : length (joined subscribed) ≡ 4 + (1 + (2 + (slot s 5 + (2 + (4 + (4 + (2 + (4 + (slot s 11 + 0))))))))) = number-front 4 (slot s 2) _ _ (number-front 1 (slot s 3) _ _ (number-front 2 (slot s 5) _ _ (part-front stream _ (slot s 5) _ (part-length [] 0 src (slot s 4) (slot s 5) (t .there)) (number-front 2 4 _ _ (number-front 4 (slot s 7 / 0x1_0000_0000) _ _ (number-front 4 (slot s 7 % 0x1_0000_0000) _ _ (number-front 2 (slot s 8) _ _ (number-front 4 (slot s 9) _ _ (part-front properties [] (slot s 11) 0 (part-length [] 0 src (slot s 10) (slot s 11) (part .there)) refl))))))))) in
+          let l : length (joined subscribed) ≡ 4 + (1 + (2 + (slot s 5 + (2 + (4 + (4 + (2 + (4 + (slot s 11 + 0))))))))) = number-front 4 (slot s 2) _ _ (number-front 1 (slot s 3) _ _ (number-front 2 (slot s 5) _ _ (part-front stream _ (slot s 5) _ (part-length [] 0 src (slot s 4) (slot s 5) (t .part .there)) (number-front 2 4 _ _ (number-front 4 (slot s 7 / 0x1_0000_0000) _ _ (number-front 4 (slot s 7 % 0x1_0000_0000) _ _ (number-front 2 (slot s 8) _ _ (number-front 4 (slot s 9) _ _ (part-front properties [] (slot s 11) 0 (part-length [] 0 src (slot s 10) (slot s 11) (part .there)) refl))))))))) in
           record { is = subscribe-written; sized = omega (arith, l) }

@@ -1,4 +1,4 @@
--- What the checks of this writer tell, where they pass. Where one fails, the general writer is asked, so nothing is said of that.
+-- What the checks of this writer tell: each passes exactly if this holds. Where one fails, the general writer is asked.
 use mathlib.Core.Path.{_≡_}
 use mathlib.Core.Bool.{true, false}
 use mathlib.Core.List.{List}
@@ -22,7 +22,7 @@ pub record IsPart (src : List ℕ) (at len : ℕ) : Type 0 where
 -- A part of src is text of at most so many bytes.
 pub record IsText (src : List ℕ) (at len most : ℕ) : Type 0 where
   pub short : len ≤ most
-  pub there : at + len ≤ length src
+  pub part : IsPart src at len
   pub text : utf8 (take len (drop at src)) ≡ true
 
 -- The slots of a Deliver: its subscription id, and the numbers of a chunk's header of type 0, fit their fields, and records

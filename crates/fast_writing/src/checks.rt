@@ -1,11 +1,12 @@
-// What is checked before a byte is put. A check that fails may also fail where the general writer would write.
+// What is checked before a byte is put. Where a check fails, the general writer may still write the frame.
 ghost use mathlib.Core.Bool.{true};
+ghost use mathlib.Core.Logic.{_↔_};
 ghost use mathlib.Core.Path.{_≡_};
 ghost use Rattle.fast_writing.specs.Checks.{Fits, IsPart, IsText};
 
 // Whether a frame of a Size is under the limit and has room.
 pub fn fits(limit: u32, size: usize, room: usize) -> bool
-    ensures { λ r. ⌜ (r ≡ true → Fits limit size room) ⌝ }
+    ensures { λ r. ⌜ (r ≡ true) ↔ Fits limit size room ⌝ }
 {
     if 0xffff_ffff < size {
         return false;
@@ -20,7 +21,7 @@ pub fn fits(limit: u32, size: usize, room: usize) -> bool
 
 // Whether a part of src is all there, and not longer than any frame.
 pub fn is_part(src: &[u8], at: usize, len: usize) -> bool
-    ensures { λ r. ⌜ (r ≡ true → IsPart (now (src .entry)) at len) ⌝ }
+    ensures { λ r. ⌜ (r ≡ true) ↔ IsPart (now (src .entry)) at len ⌝ }
 {
     if 0xffff_ffff < len {
         return false;
@@ -33,7 +34,7 @@ pub fn is_part(src: &[u8], at: usize, len: usize) -> bool
 
 // Whether a part of src is text of at most so many bytes.
 pub fn is_text(src: &[u8], at: usize, len: usize, most: usize) -> bool
-    ensures { λ r. ⌜ (r ≡ true → IsText (now (src .entry)) at len most) ⌝ }
+    ensures { λ r. ⌜ (r ≡ true) ↔ IsText (now (src .entry)) at len most ⌝ }
 {
     if most < len {
         return false;

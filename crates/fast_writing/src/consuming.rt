@@ -1,5 +1,6 @@
 // Subscribe, Credit and Deliver.
 ghost use mathlib.Core.Bool.{true};
+ghost use mathlib.Core.Logic.{_↔_};
 ghost use mathlib.Core.List.{[]};
 ghost use mathlib.Core.Path.{_≡_};
 ghost use Rattle.wire.specs.Buffer.{holds};
@@ -132,7 +133,7 @@ pub fn deliver(slots: &[u64; 24], src: &[u8], limit: u32, out: &mut [u8]) -> Fas
 
 // The subscription id, and the numbers of a chunk's header of type 0, fit their fields, and records equals entries.
 fn is_header(slots: &[u64; 24]) -> bool
-    ensures { λ r. ⌜ (r ≡ true → IsHeader (now (slots .entry))) ⌝ }
+    ensures { λ r. ⌜ (r ≡ true) ↔ IsHeader (now (slots .entry)) ⌝ }
 {
     if 0xff < slots[2] {
         return false;

@@ -5,3 +5,4 @@ mod Narrowing
 mod Into
 pub mod Walk
 mod Rows
+pub mod Contents

@@ -132,6 +132,11 @@ module _ (s fields old : List ℕ) where
     pub ends : c ≡ landed 8 (readRow (rowFrom fields) s 0)
     ends = landing all ∙ ap (landed 8) (fresh (readRow (rowFrom fields)) s (cursor 8 0 0) refl)
 
+    pub slots-end : at ≡ 2 + slotsIn (rowFrom fields)
+    slots-end =
+        let none : slotsIn (rest i) ≡ 0 = ap slotsIn none-left in
+        omega (arith, p .behind, p .left, none)
+
     flat-all : p .values ≡ flatRow row (p .read ++ [])
     flat-all = sym (append-nil (p .values)) ∙ ap (λ (x : Row). p .values ++ flatRow x []) (sym none-left) ∙ sym (p .flat [])
 

@@ -1,7 +1,7 @@
 -- A reader that puts what it reads into slots.
 use mathlib.Core.Path.{_≡_}
 use mathlib.Core.Bool.{cond}
-use mathlib.Core.List.{List, map}
+use mathlib.Core.List.{List, _∷_, map}
 use mathlib.Core.Option.{Option, none, some}
 use Prim.Native.Nat.{ℕ, _+_}
 use lib.Dec.{leb}
@@ -13,7 +13,8 @@ use Rattle.protocol.specs.declared.place.Place.{Place}
 use Rattle.rules.specs.Outcome.{Outcome, got, refused}
 use Rattle.fields.specs.Cursor.{Reads}
 use Rattle.fields.specs.declared.cursor.Cursor.{Cursor}
-use Rattle.flat.specs.Flat.{flatField, flatRow}
+use Rattle.flat.specs.Flat.{flatField, flatRow, padded}
+use Rattle.flat.specs.Unflat.{slotsIn}
 
 -- Values in the place of as many slots, if there is room for them.
 abbrev pub spliced : List ℕ → ℕ → List ℕ → List ℕ
@@ -35,3 +36,10 @@ Into (some kind) s c at old next new = IntoSlots kind s c at old next new
 abbrev pub Filled : Row → Outcome (List (Field Place)) → List ℕ → List ℕ → Type 0
 Filled row (got fs next) old new = new ≡ splice old 2 (flatRow row (map (overPlaces (further 8)) fs))
 Filled row (refused n at) old new = Unit
+
+-- The slots after a content was read: key, version and those of its fields, the others 0. A refused content leaves them as
+-- they were, and so does one whose fields take more slots than there are, which no layout's do.
+abbrev pub contentSlots : ℕ → ℕ → Row → Outcome (List (Field Place)) → List ℕ → List ℕ
+contentSlots key version row (got fs next) old =
+    cond (leb (2 + slotsIn row) 24) (padded 24 (key ∷ version ∷ flatRow row (map (overPlaces (further 8)) fs))) old
+contentSlots key version row (refused n at) old = old

@@ -3,5 +3,5 @@ mod chunk;
 mod reading;
 mod writing;
 
-pub use reading::read_fields;
+pub use reading::read_content;
 pub use writing::write_fields;

@@ -6,11 +6,11 @@ ghost use lib.ListN.{length};
 ghost use Rattle.protocol.specs.Kinds.{elementRow, unsigned, specification};
 ghost use Rattle.protocol.specs.Kinds as K;
 ghost use Rattle.protocol.specs.Layouts.{kindOf, rowFrom};
-ghost use Rattle.rules.specs.Reading.{readRow};
+ghost use Rattle.rules.specs.Reading.{readContent, readRow};
 ghost use Rattle.wire.specs.Integers.{widthOf};
 ghost use Rattle.fields.specs.Cursor.{landed};
 ghost use Rattle.flat.specs.Unflat.{slotsFor, slotsIn};
-ghost use Rattle.field_slots.specs.Reading.{IntoSlots, Into, Filled};
+ghost use Rattle.field_slots.specs.Reading.{IntoSlots, Into, Filled, contentSlots};
 use chunks::chunk_field;
 use fields::Cursor;
 use fields::nullable_field;
@@ -26,12 +26,49 @@ use lists::list_field;
 use protocol::Element;
 use protocol::Form;
 use protocol::field;
+use protocol::refusal;
 use wire::Width;
 
-// The fields of a content, in wire order, put into the slots behind those of key and version. The cursor behind them says
-// whether one is refused.
-pub fn read_fields(s: &[u8], fields: [u8; 6], slots: &mut [u64]) -> Cursor
-    ensures { λ r. ⌜ r ≡ landed 8 (readRow (rowFrom fields) (now (s .entry)) 0) ⌝ }
+// A content by its fields, then 11 if bytes are left. Only a content that is read changes the slots, and only if its fields'
+// slots have room there, as those of every layout have.
+pub fn read_content(
+    s: &[u8],
+    key: u16,
+    version: u16,
+    fields: [u8; 6],
+    slots: &mut [u64; 24],
+) -> Cursor
+    ensures { λ r. ⌜ r ≡ landed 8 (readContent (rowFrom fields) (now (s .entry))) ⌝ }
+    ensures { λ _. ⌜ now (slots .exit) ≡ contentSlots key version (rowFrom fields) (readContent (rowFrom fields) (now (s .entry))) (now (slots .entry)) ⌝ }
+{
+    let mut filled = [0u64; 24];
+    filled[0] = key as u64;
+    filled[1] = version as u64;
+    let read = read_fields(s, fields, &mut filled[..]);
+    let next = read.next;
+    if next.refused != 0 {
+        return next;
+    }
+    if next.at < s.len() {
+        return next.refuse(refusal::BYTES_LEFT);
+    }
+    if read.end <= 24 {
+        *slots = filled;
+    }
+    next
+}
+
+struct ReadFields {
+    // The cursor behind the fields says whether one is refused.
+    next: Cursor,
+    // Where the slots of the fields end.
+    end: usize,
+}
+
+// The fields of a content, in wire order, put into the slots behind those of key and version.
+fn read_fields(s: &[u8], fields: [u8; 6], slots: &mut [u64]) -> ReadFields
+    ensures { λ r. ⌜ r .next ≡ landed 8 (readRow (rowFrom fields) (now (s .entry)) 0) ⌝ }
+    ensures { λ r. ⌜ r .end ≡ 2 + slotsIn (rowFrom fields) ⌝ }
     ensures { λ _. ⌜ (2 + slotsIn (rowFrom fields) ≤ length (now (slots .entry)) → Filled (rowFrom fields) (readRow (rowFrom fields) (now (s .entry)) 0) (now (slots .entry)) (now (slots .exit))) ⌝ }
 {
     let mut c = Cursor::content();
@@ -43,7 +80,7 @@ pub fn read_fields(s: &[u8], fields: [u8; 6], slots: &mut [u64]) -> Cursor
         at += slots_of(kind);
         i += 1;
     }
-    c
+    ReadFields { next: c, end: at }
 }
 
 // The field at a cursor, by its kind.

@@ -8,7 +8,6 @@ ghost use Rattle.rules.specs.Answers.{readingRefusal};
 ghost use Rattle.rules.specs.Reading.{readFrame, readDecided, readLayout, readSized};
 ghost use Rattle.flat.specs.Flat.{slotsAfter};
 ghost use Rattle.frame_reading.specs.Answer.{told, refusalOf};
-use field_slots::read_fields;
 use fields::Cursor;
 use fields::over_limit;
 use fields::u16_field;
@@ -98,19 +97,12 @@ fn read_content(
     ensures { λ r. ⌜ r ≡ told (readLayout key version (now (s .entry))) ⌝ }
     ensures { λ _. ⌜ now (slots .exit) ≡ slotsAfter (now (slots .entry)) (readLayout key version (now (s .entry))) ⌝ }
 {
-    let mut filled = [0u64; 24];
-    filled[0] = key as u64;
-    filled[1] = version as u64;
-    let c = read_fields(s, fields, &mut filled[..]);
+    let c = field_slots::read_content(s, key, version, fields, slots);
     let number = c.refused;
     let at = c.at;
     if number != 0 {
         return refused(number, 8 + at);
     }
-    if at < s.len() {
-        return refused(refusal::BYTES_LEFT, 8 + at);
-    }
-    *slots = filled;
     FrameRead::Frame
 }
 

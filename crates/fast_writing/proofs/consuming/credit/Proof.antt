@@ -31,5 +31,5 @@ credit-spec =
     let narrow = room .before in
     let short = narrow .before in
     let start = short .before .before .before .before in
-    frame-put 0x0009 _ _ (start .args .out .now) _ _ _ _ (credit-row (start .args .slots .now) [] (short .if1 .left) (narrow .if2 .left)) (room .fits2 .ensures (not-false _ (roomy .if3 .left)))
+    frame-put 0x0009 _ _ (start .args .out .now) _ _ _ _ (credit-row (start .args .slots .now) [] (short .if1 .left) (narrow .if2 .left)) (room .fits2 .ensures .0 (not-false _ (roomy .if3 .left)))
     (put-next _ _ _ _ _ _ (put-next _ _ _ _ _ _ (head .put-head .ensures) (first .put-number .ensures)) (last .put-number2 .ensures))))

@@ -41,25 +41,25 @@ subscribe-spec =
     let there = c .before in
     let part = there .before in
     let start = part .before .before .before .before .before .before .before .before .before .before .before .before .before .before .before .before .before .before .before .before in
-    omega (arith, part .is-part .ensures (not-false _ (there .if7 .left)) .there, start .good .1 .0 .0))
+    omega (arith, part .is-part .ensures .0 (not-false _ (there .if7 .left)) .there, start .good .1 .0 .0))
     (λ c. search needs)
     (λ c. search needs)
     (λ c.
     let there = c .before in
     let part = there .before in
-    omega (arith, part .is-part .ensures (not-false _ (there .if7 .left)) .there))
+    omega (arith, part .is-part .ensures .0 (not-false _ (there .if7 .left)) .there))
     (λ c κs. search needs)
     (λ c. search needs)
     (λ c.
     let named = c .before .before .before .before .before .before .before .before .before .before in
     let name = named .before in
-    omega (arith, name .is-text .ensures (not-false _ (named .if3 .left)) .short))
+    omega (arith, name .is-text .ensures .0 (not-false _ (named .if3 .left)) .short))
     (λ c.
     let there = c .before .before .before .before in
     let part = there .before in
     let named = part .before .before .before .before .before in
     let name = named .before in
-    omega (arith, name .is-text .ensures (not-false _ (named .if3 .left)) .short, part .is-part .ensures (not-false _ (there .if7 .left)) .short))
+    omega (arith, name .is-text .ensures .0 (not-false _ (named .if3 .left)) .short, part .is-part .ensures .0 (not-false _ (there .if7 .left)) .short))
     (λ c κs. search needs)
     (λ c. search needs)
     (λ c κs. search needs)
@@ -74,7 +74,7 @@ subscribe-spec =
     (λ c.
     let roomy = c .before .before .before .before .before .before .before .before .before .before .before .before .before .before .before .before .before .before .before .before .before .before .before .before .before .before .before .before .before .before .before .before .before .before .before .before in
     let room = roomy .before in
-    omega (arith, room .fits2 .ensures (not-false _ (roomy .if10 .left)) .bound))
+    omega (arith, room .fits2 .ensures .0 (not-false _ (roomy .if10 .left)) .bound))
     (λ c.
     let o9 = c .before in
     let o8 = o9 .before .before .before .before in
@@ -111,9 +111,9 @@ subscribe-spec =
     let short = name .before in
     let known = short .before in
     let start = known .before .before .before .before .before .before .before .before .before .before .before .before in
-    let t = name .is-text .ensures (not-false _ (named .if3 .left)) in
-    let p = part .is-part .ensures (not-false _ (there .if7 .left)) in
+    let t = name .is-text .ensures .0 (not-false _ (named .if3 .left)) in
+    let p = part .is-part .ensures .0 (not-false _ (there .if7 .left)) in
     let src = start .args .src .now in
     let s = start .args .slots .now in
-    frame-put 0x0007 _ _ (start .args .out .now) _ _ _ _ (subscribe-row s src t p (known .if1 .left) (short .if2 .left) (from .if4 .left) (offset .put-eight .ensures .1) (credit .if5 .left) (count .if6 .left) (all-read (readRow (elementRow Property)) (getD s 9 0) src (getD s 10 0) (getD s 11 0) _ (properties .properties-end .ensures) (ended .if9 .left) (few .if8 .left))) (room .fits2 .ensures (not-false _ (roomy .if10 .left)))
-    (part-next src _ _ _ _ _ _ _ (p .there) (put-next _ _ _ _ _ _ (put-next _ _ _ _ _ _ (eight-next _ _ _ _ _ _ (put-next _ _ _ _ _ _ (text-next src _ _ _ _ _ _ _ (t .there) (put-next _ _ _ _ _ _ (put-next _ _ _ _ _ _ (head .put-head .ensures) (first .put-number .ensures)) (second .put-number2 .ensures)) (text .put-text .ensures)) (type .put-number3 .ensures)) (offset .put-eight .ensures .0)) (granted .put-number4 .ensures)) (number .put-number5 .ensures)) (last .put-bytes .ensures))))
+    frame-put 0x0007 _ _ (start .args .out .now) _ _ _ _ (subscribe-row s src t p (known .if1 .left) (short .if2 .left) (from .if4 .left) (offset .put-eight .ensures .1) (credit .if5 .left) (count .if6 .left) (all-read (readRow (elementRow Property)) (getD s 9 0) src (getD s 10 0) (getD s 11 0) _ (properties .properties-end .ensures) (ended .if9 .left) (few .if8 .left))) (room .fits2 .ensures .0 (not-false _ (roomy .if10 .left)))
+    (part-next src _ _ _ _ _ _ _ (p .there) (put-next _ _ _ _ _ _ (put-next _ _ _ _ _ _ (eight-next _ _ _ _ _ _ (put-next _ _ _ _ _ _ (text-next src _ _ _ _ _ _ _ (t .part .there) (put-next _ _ _ _ _ _ (put-next _ _ _ _ _ _ (head .put-head .ensures) (first .put-number .ensures)) (second .put-number2 .ensures)) (text .put-text .ensures)) (type .put-number3 .ensures)) (offset .put-eight .ensures .0)) (granted .put-number4 .ensures)) (number .put-number5 .ensures)) (last .put-bytes .ensures))))

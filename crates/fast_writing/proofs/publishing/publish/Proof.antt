@@ -28,19 +28,19 @@ publish-spec =
     (λ c.
     let there = c .before in
     let part = there .before in
-    omega (arith, part .is-part .ensures (not-false _ (there .if3 .left)) .there))
+    omega (arith, part .is-part .ensures .0 (not-false _ (there .if3 .left)) .there))
     (λ c. search needs)
     (λ c. search needs)
     (λ c.
     let there = c .before in
     let part = there .before in
-    omega (arith, part .is-part .ensures (not-false _ (there .if3 .left)) .there))
+    omega (arith, part .is-part .ensures .0 (not-false _ (there .if3 .left)) .there))
     (λ c κs. search needs)
     (λ c. search needs)
     (λ c.
     let there = c .before .before .before .before in
     let part = there .before in
-    omega (arith, part .is-part .ensures (not-false _ (there .if3 .left)) .short))
+    omega (arith, part .is-part .ensures .0 (not-false _ (there .if3 .left)) .short))
     (λ c κs. search needs)
     (λ c. search needs)
     (λ c κs. search needs)
@@ -50,7 +50,7 @@ publish-spec =
     (λ c.
     let roomy = c .before .before .before .before .before .before .before .before .before .before .before .before .before .before .before .before in
     let room = roomy .before in
-    omega (arith, room .fits2 .ensures (not-false _ (roomy .if6 .left)) .bound))
+    omega (arith, room .fits2 .ensures .0 (not-false _ (roomy .if6 .left)) .bound))
     (λ c. search needs)
     (λ c.
     let last = c .before .before in
@@ -67,8 +67,8 @@ publish-spec =
     let count = part .before in
     let short = count .before in
     let start = short .before .before .before .before .before .before .before in
-    let p = part .is-part .ensures (not-false _ (there .if3 .left)) in
+    let p = part .is-part .ensures .0 (not-false _ (there .if3 .left)) in
     let src = start .args .src .now in
     let s = start .args .slots .now in
-    frame-put 0x0002 _ _ (start .args .out .now) _ _ _ _ (publish-row s src p (short .if1 .left) (count .if2 .left) (all-read (readRow (elementRow Message)) (getD s 3 0) src (getD s 4 0) (getD s 5 0) _ (messages .messages-end .ensures) (ended .if5 .left) (few .if4 .left))) (room .fits2 .ensures (not-false _ (roomy .if6 .left)))
+    frame-put 0x0002 _ _ (start .args .out .now) _ _ _ _ (publish-row s src p (short .if1 .left) (count .if2 .left) (all-read (readRow (elementRow Message)) (getD s 3 0) src (getD s 4 0) (getD s 5 0) _ (messages .messages-end .ensures) (ended .if5 .left) (few .if4 .left))) (room .fits2 .ensures .0 (not-false _ (roomy .if6 .left)))
     (part-next src _ _ _ _ _ _ _ (p .there) (put-next _ _ _ _ _ _ (put-next _ _ _ _ _ _ (head .put-head .ensures) (first .put-number .ensures)) (second .put-number2 .ensures)) (last .put-bytes .ensures))))

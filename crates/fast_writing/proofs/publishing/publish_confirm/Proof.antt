@@ -46,7 +46,7 @@ publish-confirm-spec =
     let short = count .before in
     let bytes = short .before .before .before .before .before .before in
     let start = bytes .before in
-    let p = part .is-part .ensures (not-false _ (there .if3 .left)) in
+    let p = part .is-part .ensures .0 (not-false _ (there .if3 .left)) in
     let src = start .args .src .now in
-    frame-put 0x0003 _ _ (start .args .out .now) _ _ _ _ (confirm-row (start .args .slots .now) src p (short .if1 .left) (count .if2 .left) (part-bytes src (getD (start .args .slots .now) 4 0) (getD (start .args .slots .now) 5 0) (λ i. omega (arith, bytes .shared-slice-known .given i))) (even .if4 .left)) (room .fits2 .ensures (not-false _ (roomy .if5 .left)))
+    frame-put 0x0003 _ _ (start .args .out .now) _ _ _ _ (confirm-row (start .args .slots .now) src p (short .if1 .left) (count .if2 .left) (part-bytes src (getD (start .args .slots .now) 4 0) (getD (start .args .slots .now) 5 0) (λ i. omega (arith, bytes .shared-slice-known .given i))) (even .if4 .left)) (room .fits2 .ensures .0 (not-false _ (roomy .if5 .left)))
     (part-next src _ _ _ _ _ _ _ (p .there) (put-next _ _ _ _ _ _ (put-next _ _ _ _ _ _ (head .put-head .ensures) (first .put-number .ensures)) (second .put-number2 .ensures)) (last .put-bytes .ensures))))

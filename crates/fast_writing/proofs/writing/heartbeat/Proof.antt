@@ -20,4 +20,4 @@ heartbeat-spec =
     let last = head .before .before in
     let room = last .before in
     let start = room .before .before in
-    frame-put 0x0017 _ _ (start .args .out .now) _ _ _ _ (heartbeat-row [] []) (room .fits2 .ensures (not-false _ (last .if1 .left))) (head .put-head .ensures)))
+    frame-put 0x0017 _ _ (start .args .out .now) _ _ _ _ (heartbeat-row [] []) (room .fits2 .ensures .0 (not-false _ (last .if1 .left))) (head .put-head .ensures)))

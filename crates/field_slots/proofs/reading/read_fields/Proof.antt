@@ -5,7 +5,7 @@ use native.Mathlib.Omega.{arith}
 use lib.ListN.{length, getD}
 use borrow.Author.Needs.{needs}
 use Rattle.protocol.specs.Layouts.{kindOf}
-use Rattle.field_slots.proofs.Walk.{Passed, starts, turns, ends, filled, into-length}
+use Rattle.field_slots.proofs.Walk.{Passed, starts, turns, ends, slots-end, filled, into-length}
 use Rattle.field_slots.proofs.reading.read_fields.Statement.{statement}
 use Rattle.field_slots.proofs.reading.read_fields.Tie as tie
 
@@ -48,4 +48,4 @@ read-fields-spec =
     let a = c .before .before .before .before .before .args in
     let long = l .inv .3 in
     let last : l .i ≡ length (a .t2) = omega arith in
-    (ends _ _ _ _ _ _ _ (l .inv .4) last, filled _ _ _ _ _ _ _ (l .inv .4) last)))
+    (ends _ _ _ _ _ _ _ (l .inv .4) last, (slots-end _ _ _ _ _ _ _ (l .inv .4) last, filled _ _ _ _ _ _ _ (l .inv .4) last))))
