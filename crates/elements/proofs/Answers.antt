@@ -25,8 +25,8 @@ use Rattle.protocol.specs.declared.place.Place.{Place}
 use Rattle.elements.specs.Questions.{Asked, found, refusal, asked, readNth, elementAt, messageAt, octetsIn, placeIn, fieldPart, messagePart, partAt}
 use Rattle.rules.specs.Outcome.{Outcome, got, refused, repeated, mapped}
 use Rattle.rules.specs.Reading.{hasEntries, readRow, readEntry}
-use Rattle.rules.proofs.Bounds.{Numbered, numbered-row, numbered-entry, numbered-repeated}
-use Rattle.elements.proofs.Questions.{part-inside, nth-gives, nth-numbered, entry-inside, element-inside, message-inside, place-inside}
+use Rattle.rules.proofs.Bounds.{Numbered, FieldNumbered, numbered-row, numbered-entry, numbered-repeated, bounded-entry}
+use Rattle.elements.proofs.Questions.{part-inside, nth-gives, nth-bounded, entry-inside, element-inside, message-inside, place-inside}
 use Rattle.rules.proofs.Gives.{Gives}
 use Rattle.fields.specs.Cursor.{cursor, from, landed, foundOr}
 use Rattle.fields.specs.declared.cursor.Cursor.{Cursor}
@@ -96,11 +96,11 @@ module _ (s : List ℕ) (index base : ℕ) (d c : Cursor) (i : d ≡ cursor 0 0 
 
   -- By the outcome, of which the cursor behind tells whether it is a refusal.
   by-entry : (P : Outcome Place → Type 0) → ((n p : ℕ) → (n ≡ 0 → ⊥) → next ≡ cursor 0 p n → P (refused n p)) → ((q : Place) (p : ℕ) → v ≡ q → next ≡ cursor 0 p 0 → EndsBy (length s) (some q) → P (got q p)) → P (readNth readEntry index s)
-  by-entry P f g = by (readNth readEntry index s) (nth-numbered readEntry s index numbered-entry) (nth-gives readEntry s index (λ q _. EndsBy (length s) (some q)) (entry-inside s)) (a .0 ∙ ap (foundOr (place 0 0)) (entry-reached .is)) (a .1 ∙ ap (λ (b : ℕ). landed b (from readEntry s c)) (entry-reached .start) ∙ ap (landed 0) (entry-reached .is))
+  by-entry P f g = by (readNth readEntry index s) (nth-bounded readEntry s index (bounded-entry s)) (nth-gives readEntry s index (λ q _. EndsBy (length s) (some q)) (entry-inside s)) (a .0 ∙ ap (foundOr (place 0 0)) (entry-reached .is)) (a .1 ∙ ap (λ (b : ℕ). landed b (from readEntry s c)) (entry-reached .start) ∙ ap (landed 0) (entry-reached .is))
     where
-      by : (o : Outcome Place) → Numbered o → Gives (λ q _. EndsBy (length s) (some q)) o → v ≡ foundOr (place 0 0) o → next ≡ landed 0 o → P o
+      by : (o : Outcome Place) → FieldNumbered o → Gives (λ q _. EndsBy (length s) (some q)) o → v ≡ foundOr (place 0 0) o → next ≡ landed 0 o → P o
       by (got q p) n h e k = g q p e k h
-      by (refused m p) n h e k = f m p n k
+      by (refused m p) n h e k = f m p (λ z. omega (arith, n .0, z)) k
 
   pub nth-message-refused : (next .refused ≡ 0 → ⊥) → refusal (next .refused) ≡ asked (mapped (further base) (readNth readEntry index s))
   nth-message-refused z =

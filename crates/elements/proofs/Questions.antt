@@ -18,7 +18,7 @@ use Rattle.protocol.specs.declared.place.Place.{Place}
 use Rattle.rules.specs.Outcome.{Outcome, got, refused, then, repeated, mapped}
 use Rattle.rules.specs.Reading.{hasEntries, readEntry, readRow}
 use Rattle.elements.specs.Questions.{Asked, found, refusal, asked, readNth, elementAt, messageAt, partAt, placeIn}
-use Rattle.rules.proofs.Bounds.{Numbered, numbered-repeated, numbered-row, numbered-entry}
+use Rattle.rules.proofs.Bounds.{FieldNumber, FieldNumbered, Bounded, bounded-repeated, bounded-row, bounded-entry}
 use Rattle.rules.proofs.Gives.{Gives, choice, check, after-number}
 use Rattle.rules.proofs.Inside.{inside-row, moved}
 use Rattle.rules.proofs.Parts.{length-part}
@@ -53,28 +53,33 @@ module _ {A : Type 0} (read : List ℕ → ℕ → Outcome A) (part : List ℕ) 
       by (got _ at) = h at
       by (refused n at) = tt
 
-  pub nth-numbered : ((t : List ℕ) (at : ℕ) → Numbered (read t at)) → Numbered (readNth read index part)
+  -- A refusal has a number that a field can be refused with.
+  pub nth-bounded : ((at : ℕ) → Bounded part at (read part at)) → FieldNumbered (readNth read index part)
   unfolding readNth
-  nth-numbered h = by (repeated read index part 0) (numbered-repeated read h index part 0)
+  nth-bounded h = by (repeated read index part 0) (bounded-repeated part read h index 0)
     where
-      by : (o : Outcome Unit) → Numbered o → Numbered (then o (λ _ at. read part at))
-      by (got _ at) k = h part at
-      by (refused n at) k = k
+      of : (at : ℕ) (o : Outcome A) → Bounded part at o → FieldNumbered o
+      of at (got a next) k = tt
+      of at (refused n p) k = k .0
 
--- What holds of an answer: of what was found, and of a refusal that its number is not 0.
+      by : (o : Outcome Unit) → Bounded part 0 o → FieldNumbered (then o (λ _ at. read part at))
+      by (got _ at) k = of at (read part at) (h at)
+      by (refused n at) k = k .0
+
+-- What holds of an answer: of what was found, and of a refusal that its number is one of a field's.
 abbrev Answers : {A : Type 0} → (A → Type 0) → Asked A → Type 0
 Answers P (found a) = P a
-Answers P (refusal n) = n ≡ 0 → ⊥
+Answers P (refusal n) = FieldNumber n
 
-answers : {A B : Type 0} (P : A → ℕ → Type 0) (Q : B → Type 0) (f : A → B) (o : Outcome A) → ((a : A) (next : ℕ) → P a next → Q (f a)) → Gives P o → Numbered o → Answers Q (asked (mapped f o))
+answers : {A B : Type 0} (P : A → ℕ → Type 0) (Q : B → Type 0) (f : A → B) (o : Outcome A) → ((a : A) (next : ℕ) → P a next → Q (f a)) → Gives P o → FieldNumbered o → Answers Q (asked (mapped f o))
 answers P Q f (got a next) h g n = h a next g
 answers P Q f (refused m at) h g n = n
 
-not-6 : fieldCut ≡ 0 → ⊥
-not-6 e = omega arith
+is-6 : FieldNumber fieldCut
+is-6 = (omega arith, omega arith)
 
-not-10 : valueNotAdmitted ≡ 0 → ⊥
-not-10 e = omega arith
+is-10 : FieldNumber valueNotAdmitted
+is-10 = (omega arith, omega arith)
 
 -- A message lies within its part.
 pub entry-inside : (part : List ℕ) (at : ℕ) → Gives (λ q _. EndsBy (length part) (some q)) (readEntry part at)
@@ -95,20 +100,19 @@ module _ (s : List ℕ) (p : Place) (index : ℕ) where
     element-answers : Answers (PlacesEndBy (length s)) (elementAt row s count p index)
     unfolding elementAt
     element-answers =
-        choice (Answers (PlacesEndBy (length s))) (outside p s) _ _ (λ _. not-6) (λ o.
-        choice (Answers (PlacesEndBy (length s))) (leb count index) _ _ (λ _. not-10) (λ _.
+        choice (Answers (PlacesEndBy (length s))) (outside p s) _ _ (λ _. is-6) (λ o.
+        choice (Answers (PlacesEndBy (length s))) (leb count index) _ _ (λ _. is-10) (λ _.
         answers (λ fs _. PlacesEndBy (length (bytesAt s p)) fs) (PlacesEndBy (length s)) _ (readNth (readRow row) index (bytesAt s p))
         (λ fs _ h. moved (p .at) (length (bytesAt s p)) (length s) fs (room o) h)
         (nth-gives (readRow row) (bytesAt s p) index _ (λ at. inside-row (bytesAt s p) row at))
-        (nth-numbered (readRow row) (bytesAt s p) index (λ t at. numbered-row row t at))))
+        (nth-bounded (readRow row) (bytesAt s p) index (λ at. bounded-row row (bytesAt s p) at))))
 
     -- Every place in an element that is found lies within the source.
     pub element-inside : (fs : List (Field Place)) → elementAt row s count p index ≡ found fs → PlacesEndBy (length s) fs
     element-inside fs e = subst (Answers (PlacesEndBy (length s))) e element-answers
 
-    -- So 0 can say that there is no refusal.
-    pub element-numbered : (n : ℕ) → elementAt row s count p index ≡ refusal n → n ≡ 0 → ⊥
-    element-numbered n e = subst (Answers (PlacesEndBy (length s))) e element-answers
+    pub element-number : (n : ℕ) → elementAt row s count p index ≡ refusal n → FieldNumber n
+    element-number n e = subst (Answers (PlacesEndBy (length s))) e element-answers
 
   abbrev Within : Place → Type 0
   Within q = EndsBy (length s) (some q)
@@ -123,20 +127,20 @@ module _ (s : List ℕ) (p : Place) (index : ℕ) where
     message-answers : Answers Within (messageAt s h p index)
     unfolding messageAt
     message-answers =
-        choice (Answers Within) (outside p s) _ _ (λ _. not-6) (λ o.
-        choice (Answers Within) (not (hasEntries (h .«chunk_type»))) _ _ (λ _. not-10) (λ _.
-        choice (Answers Within) (leb (h .entries) index) _ _ (λ _. not-10) (λ _.
+        choice (Answers Within) (outside p s) _ _ (λ _. is-6) (λ o.
+        choice (Answers Within) (not (hasEntries (h .«chunk_type»))) _ _ (λ _. is-10) (λ _.
+        choice (Answers Within) (leb (h .entries) index) _ _ (λ _. is-10) (λ _.
         answers (λ q _. EndsBy (length (bytesAt s p)) (some q)) Within _ (readNth readEntry index (bytesAt s p))
         (λ q _ k. further-inside (bytesAt s p) q (room o) k)
         (nth-gives readEntry (bytesAt s p) index _ (λ at. entry-inside (bytesAt s p) at))
-        (nth-numbered readEntry (bytesAt s p) index numbered-entry))))
+        (nth-bounded readEntry (bytesAt s p) index (bounded-entry (bytesAt s p))))))
 
     -- A message that is found lies within the source.
     pub message-inside : (q : Place) → messageAt s h p index ≡ found q → EndsBy (length s) (some q)
     message-inside q e = subst (Answers Within) e message-answers
 
-    pub message-numbered : (n : ℕ) → messageAt s h p index ≡ refusal n → n ≡ 0 → ⊥
-    message-numbered n e = subst (Answers Within) e message-answers
+    pub message-number : (n : ℕ) → messageAt s h p index ≡ refusal n → FieldNumber n
+    message-number n e = subst (Answers Within) e message-answers
 
 -- One field of an element.
 pub place-inside : (n m : ℕ) (fs : List (Field Place)) → PlacesEndBy m fs → EndsBy m (placeIn n fs)

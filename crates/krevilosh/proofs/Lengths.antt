@@ -19,7 +19,7 @@ use Rattle.frame_writing.specs.Written.{writingOf}
 use Rattle.frame_writing.specs.declared.writing.Written.{Written}
 use Rattle.frame_writing.specs.declared.writing.Written.the-variants.{Length, Refused}
 use Rattle.flat.specs.Unflat.{unflatFrame, writeFlat}
-use Rattle.krevilosh.specs.Answer.{answer, LengthFits, writtenNumber}
+use Rattle.krevilosh.specs.Answer.{answer, LengthFits, writtenAnswer}
 
 abbrev Fits : Writing → Type 0
 Fits w = LengthFits (w .answer)
@@ -55,11 +55,11 @@ module _ (v : Written) (o : List ℕ) (x : Writing) (e : writingOf v o ≡ x) wh
   as-told : (w : Written) → v ≡ w → writingOf w o ≡ x
   as-told w i = ap (λ (y : Written). writingOf y o) (sym i) ∙ e
 
-  pub length-told : (n r : ℕ) → v ≡ Length n → r ≡ answer 0 n → (r ≡ writtenNumber (x .answer)) × (o ≡ x .out)
-  length-told n r i j = let f = as-told (Length n) i in (j ∙ ap (λ (y : Writing). writtenNumber (y .answer)) f, ap (λ (y : Writing). y .out) f)
+  pub length-told : (n r : ℕ) → v ≡ Length n → r ≡ answer 0 n → (r ≡ writtenAnswer (x .answer)) × (o ≡ x .out)
+  length-told n r i j = let f = as-told (Length n) i in (j ∙ ap (λ (y : Writing). writtenAnswer (y .answer)) f, ap (λ (y : Writing). y .out) f)
 
-  pub refusal-told : (n : ℕ) → v ≡ Refused n → (n ≡ writtenNumber (x .answer)) × (o ≡ x .out)
-  refusal-told n i = let f = as-told (Refused n) i in (ap (λ (y : Writing). writtenNumber (y .answer)) f, ap (λ (y : Writing). y .out) f)
+  pub refusal-told : (n : ℕ) → v ≡ Refused n → (n ≡ writtenAnswer (x .answer)) × (o ≡ x .out)
+  refusal-told n i = let f = as-told (Refused n) i in (ap (λ (y : Writing). writtenAnswer (y .answer)) f, ap (λ (y : Writing). y .out) f)
 
   pub length-below : (n : ℕ) (s src : List ℕ) (limit : ℕ) (out : List ℕ) → v ≡ Length n → x ≡ writeFlat s src limit out → n < 0x100_0000_0000_0000
   length-below n s src limit out i j =

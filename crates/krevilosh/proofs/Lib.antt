@@ -2,3 +2,4 @@
 mod Answers
 mod Lengths
 mod Questions
+pub mod HostNumbers

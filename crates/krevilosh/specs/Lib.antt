@@ -1,4 +1,5 @@
 -- What the functions that the host calls hand back.
 pub mod Answer
+pub mod Numbers
 pub mod Asked
 pub mod Shapes

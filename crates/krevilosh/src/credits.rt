@@ -2,8 +2,9 @@
 ghost use mathlib.Core.Path.{_≡_};
 ghost use Rattle.ledger.specs.Rules.{empty};
 ghost use Rattle.credit.specs.Calls.{opening, grant, closing};
+ghost use Rattle.credit.specs.Numbers.{creditRefusal};
 ghost use Rattle.credit.specs.Step.{answer, after};
-ghost use Rattle.krevilosh.specs.Answer.{creditNumber};
+ghost use Rattle.krevilosh.specs.Answer.{refusalAnswer};
 use crate::changes::changed;
 
 // Closes all ids, whatever the ledger held.
@@ -16,7 +17,7 @@ pub extern "C" fn krevilosh_credit_empty(credits: &mut [u32; 257])
 
 #[no_mangle]
 pub extern "C" fn krevilosh_credit_open(credits: &mut [u32; 257], id: u8, balance: u16) -> u64
-    ensures { λ r. ⌜ r ≡ creditNumber (answer (now (credits .entry)) (opening id balance)) ⌝ }
+    ensures { λ r. ⌜ r ≡ refusalAnswer (creditRefusal (answer (now (credits .entry)) (opening id balance))) ⌝ }
     ensures { λ _. ⌜ now (credits .exit) ≡ after (now (credits .entry)) (opening id balance) ⌝ }
 {
     changed(credit::open(credits, id, balance))
@@ -24,7 +25,7 @@ pub extern "C" fn krevilosh_credit_open(credits: &mut [u32; 257], id: u8, balanc
 
 #[no_mangle]
 pub extern "C" fn krevilosh_credit_grant(credits: &mut [u32; 257], id: u8, more: u16) -> u64
-    ensures { λ r. ⌜ r ≡ creditNumber (answer (now (credits .entry)) (grant id more)) ⌝ }
+    ensures { λ r. ⌜ r ≡ refusalAnswer (creditRefusal (answer (now (credits .entry)) (grant id more))) ⌝ }
     ensures { λ _. ⌜ now (credits .exit) ≡ after (now (credits .entry)) (grant id more) ⌝ }
 {
     changed(credit::grant(credits, id, more))
@@ -32,7 +33,7 @@ pub extern "C" fn krevilosh_credit_grant(credits: &mut [u32; 257], id: u8, more:
 
 #[no_mangle]
 pub extern "C" fn krevilosh_credit_close(credits: &mut [u32; 257], id: u8) -> u64
-    ensures { λ r. ⌜ r ≡ creditNumber (answer (now (credits .entry)) (closing id)) ⌝ }
+    ensures { λ r. ⌜ r ≡ refusalAnswer (creditRefusal (answer (now (credits .entry)) (closing id))) ⌝ }
     ensures { λ _. ⌜ now (credits .exit) ≡ after (now (credits .entry)) (closing id) ⌝ }
 {
     changed(credit::close(credits, id))

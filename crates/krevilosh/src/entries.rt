@@ -1,7 +1,7 @@
 // The chunk reader: a chunk's entries one after another.
 ghost use mathlib.Core.Path.{_≡_};
 ghost use Rattle.chunk_reader.specs.Slots.{openNumber, readerOpened, nextFound, readerAfter, entryAfter};
-ghost use Rattle.krevilosh.specs.Answer.{nextNumber};
+ghost use Rattle.krevilosh.specs.Answer.{nextAnswer};
 use crate::packed;
 use chunk_reader::Found;
 
@@ -21,7 +21,7 @@ pub extern "C" fn krevilosh_chunk_next(
     reader: &mut [u64; 4],
     entry: &mut [u64; 8],
 ) -> u64
-    ensures { λ r. ⌜ r ≡ nextNumber (nextFound (now (chunk .entry)) (now (reader .entry))) ⌝ }
+    ensures { λ r. ⌜ r ≡ nextAnswer (nextFound (now (chunk .entry)) (now (reader .entry))) ⌝ }
     ensures { λ _. ⌜ now (reader .exit) ≡ readerAfter (now (chunk .entry)) (now (reader .entry)) ⌝ }
     ensures { λ _. ⌜ now (entry .exit) ≡ entryAfter (now (chunk .entry)) (now (reader .entry)) (now (entry .entry)) ⌝ }
 {
@@ -31,7 +31,7 @@ pub extern "C" fn krevilosh_chunk_next(
 
 // What is answered: an entry with a 1 above the number, which tells it from the end.
 fn number_of(found: Found) -> u64
-    ensures { λ r. ⌜ r ≡ nextNumber found ⌝ }
+    ensures { λ r. ⌜ r ≡ nextAnswer found ⌝ }
 {
     match found {
         Found::Ready => 0,

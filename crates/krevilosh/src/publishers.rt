@@ -2,8 +2,9 @@
 ghost use mathlib.Core.Path.{_≡_};
 ghost use Rattle.ledger.specs.Rules.{empty};
 ghost use Rattle.publisher.specs.Calls.{declaration, deletion, sending, confirming};
+ghost use Rattle.publisher.specs.Numbers.{refusalNumber};
 ghost use Rattle.publisher.specs.Step.{answer, after};
-ghost use Rattle.krevilosh.specs.Answer.{publisherNumber};
+ghost use Rattle.krevilosh.specs.Answer.{orZero};
 use crate::changes::changed;
 
 // Closes all ids, whatever the ledger held.
@@ -16,7 +17,7 @@ pub extern "C" fn krevilosh_publisher_empty(publishers: &mut [u32; 257])
 
 #[no_mangle]
 pub extern "C" fn krevilosh_publisher_declare(publishers: &mut [u32; 257], id: u8) -> u64
-    ensures { λ r. ⌜ r ≡ publisherNumber (answer (now (publishers .entry)) (declaration id)) ⌝ }
+    ensures { λ r. ⌜ r ≡ orZero (refusalNumber (answer (now (publishers .entry)) (declaration id))) ⌝ }
     ensures { λ _. ⌜ now (publishers .exit) ≡ after (now (publishers .entry)) (declaration id) ⌝ }
 {
     changed(publisher::declare(publishers, id))
@@ -24,7 +25,7 @@ pub extern "C" fn krevilosh_publisher_declare(publishers: &mut [u32; 257], id: u
 
 #[no_mangle]
 pub extern "C" fn krevilosh_publisher_delete(publishers: &mut [u32; 257], id: u8) -> u64
-    ensures { λ r. ⌜ r ≡ publisherNumber (answer (now (publishers .entry)) (deletion id)) ⌝ }
+    ensures { λ r. ⌜ r ≡ orZero (refusalNumber (answer (now (publishers .entry)) (deletion id))) ⌝ }
     ensures { λ _. ⌜ now (publishers .exit) ≡ after (now (publishers .entry)) (deletion id) ⌝ }
 {
     changed(publisher::delete(publishers, id))
@@ -32,7 +33,7 @@ pub extern "C" fn krevilosh_publisher_delete(publishers: &mut [u32; 257], id: u8
 
 #[no_mangle]
 pub extern "C" fn krevilosh_publisher_send(publishers: &mut [u32; 257], id: u8, n: u32) -> u64
-    ensures { λ r. ⌜ r ≡ publisherNumber (answer (now (publishers .entry)) (sending id n)) ⌝ }
+    ensures { λ r. ⌜ r ≡ orZero (refusalNumber (answer (now (publishers .entry)) (sending id n))) ⌝ }
     ensures { λ _. ⌜ now (publishers .exit) ≡ after (now (publishers .entry)) (sending id n) ⌝ }
 {
     changed(publisher::send(publishers, id, n))
@@ -41,7 +42,7 @@ pub extern "C" fn krevilosh_publisher_send(publishers: &mut [u32; 257], id: u8, 
 // Confirmed or in error.
 #[no_mangle]
 pub extern "C" fn krevilosh_publisher_confirm(publishers: &mut [u32; 257], id: u8, n: u32) -> u64
-    ensures { λ r. ⌜ r ≡ publisherNumber (answer (now (publishers .entry)) (confirming id n)) ⌝ }
+    ensures { λ r. ⌜ r ≡ orZero (refusalNumber (answer (now (publishers .entry)) (confirming id n))) ⌝ }
     ensures { λ _. ⌜ now (publishers .exit) ≡ after (now (publishers .entry)) (confirming id n) ⌝ }
 {
     changed(publisher::confirm(publishers, id, n))

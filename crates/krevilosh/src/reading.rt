@@ -1,11 +1,14 @@
 // Reading frames.
 ghost use mathlib.Core.Path.{_≡_};
+ghost use Rattle.rules.specs.Answers.{readingRefusal};
 ghost use Rattle.rules.specs.Reading.{readFrame};
 ghost use Rattle.credit.specs.Calls.{received};
+ghost use Rattle.credit.specs.Numbers.{creditRefusal};
 ghost use Rattle.credit.specs.Step.{answer, after};
 ghost use Rattle.receiving.specs.Answer.{slotsAfter};
 ghost use Rattle.flat.specs.Flat as flat;
-ghost use Rattle.krevilosh.specs.Answer.{creditNumber, numberRead, readNumber, NeededFits};
+ghost use Rattle.frame_reading.specs.Answer.{refusalOf};
+ghost use Rattle.krevilosh.specs.Answer.{refusalAnswer, NeededFits};
 use crate::packed;
 use frame_reading::FrameRead;
 use protocol::refusal;
@@ -14,7 +17,7 @@ use receiving::Received;
 // The frame at the start of the bytes, under a frame limit, into the frame's slots.
 #[no_mangle]
 pub extern "C" fn krevilosh_read(bytes: &[u8], limit: u32, frame: &mut [u64; 24]) -> u64
-    ensures { λ r. ⌜ r ≡ readNumber (readFrame (now (bytes .entry)) limit) ⌝ }
+    ensures { λ r. ⌜ r ≡ refusalAnswer (readingRefusal (readFrame (now (bytes .entry)) limit)) ⌝ }
     ensures { λ _. ⌜ now (frame .exit) ≡ flat.slotsAfter (now (frame .entry)) (readFrame (now (bytes .entry)) limit) ⌝ }
 {
     let read = frame_reading::read(bytes, limit, frame);
@@ -29,7 +32,7 @@ pub extern "C" fn krevilosh_credit_receive(
     limit: u32,
     frame: &mut [u64; 24],
 ) -> u64
-    ensures { λ r. ⌜ r ≡ creditNumber (answer (now (credits .entry)) (received (now (bytes .entry)) limit)) ⌝ }
+    ensures { λ r. ⌜ r ≡ refusalAnswer (creditRefusal (answer (now (credits .entry)) (received (now (bytes .entry)) limit))) ⌝ }
     ensures { λ _. ⌜ now (credits .exit) ≡ after (now (credits .entry)) (received (now (bytes .entry)) limit) ⌝ }
     ensures { λ _. ⌜ now (frame .exit) ≡ slotsAfter (now (frame .entry)) (answer (now (credits .entry)) (received (now (bytes .entry)) limit)) ⌝ }
 {
@@ -41,8 +44,8 @@ pub extern "C" fn krevilosh_credit_receive(
 
 // What reading answers.
 fn number_of(read: FrameRead) -> u64
-    requires { ⌜ NeededFits read ⌝ }
-    ensures { λ r. ⌜ r ≡ numberRead read ⌝ }
+    requires { ⌜ NeededFits (refusalOf read) ⌝ }
+    ensures { λ r. ⌜ r ≡ refusalAnswer (refusalOf read) ⌝ }
 {
     match read {
         FrameRead::Frame => 0,

@@ -1,7 +1,7 @@
 // Writing frames.
 ghost use mathlib.Core.Path.{_≡_};
 ghost use Rattle.flat.specs.Unflat.{writeFlat};
-ghost use Rattle.krevilosh.specs.Answer.{writtenNumber};
+ghost use Rattle.krevilosh.specs.Answer.{writtenAnswer};
 use crate::packed;
 use frame_writing::Written;
 
@@ -13,7 +13,7 @@ pub extern "C" fn krevilosh_write(
     limit: u32,
     out: &mut [u8],
 ) -> u64
-    ensures { λ r. ⌜ r ≡ writtenNumber (writeFlat (now (frame .entry)) (now (source .entry)) limit (now (out .entry)) .answer) ⌝ }
+    ensures { λ r. ⌜ r ≡ writtenAnswer (writeFlat (now (frame .entry)) (now (source .entry)) limit (now (out .entry)) .answer) ⌝ }
     ensures { λ _. ⌜ now (out .exit) ≡ writeFlat (now (frame .entry)) (now (source .entry)) limit (now (out .entry)) .out ⌝ }
 {
     match frame_writing::write(frame, source, limit, out) {

@@ -19,24 +19,42 @@ use Rattle.frame_reading.specs.declared.reading.FrameRead.the-variants.{Frame}
 use Rattle.frame_reading.proofs.Told.{frame-told, slots-told}
 use Rattle.frame_reading.proofs.reading.FrameRead.{the-type}
 use Rattle.ledger.specs.Calls.{take, answerBy}
+use Rattle.ledger.specs.Calls as calls
 use Rattle.ledger.specs.Rules.{refusal, decode, entryAt, answerTo, ledgerAfter}
-use Rattle.credit.specs.Calls.{received, frame, number}
+use Rattle.credit.specs.Calls.{received, frame, number, short, unread, Reply}
+use Rattle.credit.specs.Numbers.{creditRefusal}
 use Rattle.credit.specs.Step.{answer, after, actOnFrame, actOnReading, spend}
-use Rattle.receiving.specs.Answer.{answerOf, slotsAfter}
+use Rattle.receiving.specs.Answer.{answerOf, receivedRefusal, slotsAfter}
 use Rattle.receiving.specs.Subscription.{addressed, refusalFor, admitted, affords, spent}
 use Rattle.receiving.specs.declared.receiving.Received.{Received}
 use Rattle.receiving.specs.declared.receiving.Received.the-variants as answers
 use Rattle.rules.proofs.Listed.{differ}
 use Rattle.receiving.proofs.Addressed.{addressed-id}
 
+-- An answer is the refusal that the reply is.
+refused-as : (y : Reply) (r : Received) → r ≡ answerOf y → receivedRefusal r ≡ creditRefusal y
+refused-as y r e = ap receivedRefusal e ∙ by y
+  where
+    by : (y : Reply) → receivedRefusal (answerOf y) ≡ creditRefusal y
+    by (calls.accepted z) = refl
+    by (calls.refused (number n)) = refl
+    by (calls.refused (short n)) = refl
+    by (calls.refused (unread n place)) = refl
+
 module _ (l s : List ℕ) (limit : ℕ) (old : List ℕ) where
-  -- The answer, the ledger and the slots that the contract asks for.
+  abbrev reply : Reply
+  reply = answer l (received s limit)
+
+  -- The answer, the ledger, the slots and the refusal that the contract asks for.
   abbrev pub Answers : Received → List ℕ → List ℕ → Type 0
-  Answers r l' new = (r ≡ answerOf (answer l (received s limit))) × ((l' ≡ after l (received s limit)) × (new ≡ slotsAfter old (answer l (received s limit))))
+  Answers r l' new = (r ≡ answerOf reply) × ((l' ≡ after l (received s limit)) × ((new ≡ slotsAfter old reply) × (receivedRefusal r ≡ creditRefusal reply)))
+
+  answers-all : (r : Received) (l' new : List ℕ) → (r ≡ answerOf reply) × ((l' ≡ after l (received s limit)) × (new ≡ slotsAfter old reply)) → Answers r l' new
+  answers-all r l' new a = (a .0, (a .1 .0, (a .1 .1, refused-as reply r (a .0))))
 
   -- A refusal of reading.
   pub no-frame : (r : FrameRead) → r ≡ told (readFrame s limit) → OneOf (1 ∷ 2 ∷ []) (tagOf the-type r) → Answers (answers.Reading r) l old
-  no-frame r e k = by (readFrame s limit) e
+  no-frame r e k = answers-all (answers.Reading r) l old (by (readFrame s limit) e)
     where
       by : (x : rules.Reading) → r ≡ told x → (answers.Reading r ≡ answerOf (answerTo number l (actOnReading x))) × ((l ≡ ledgerAfter l (actOnReading x)) × (old ≡ slotsAfter old (answerTo number l (actOnReading x))))
       by (rules.frame f) e = absurd (miss (1 ∷ 2 ∷ []) 0 tt (subst (λ (x : FrameRead). OneOf (1 ∷ 2 ∷ []) (tagOf the-type x)) e k))
@@ -45,7 +63,7 @@ module _ (l s : List ℕ) (limit : ℕ) (old : List ℕ) where
 
   -- Slots that such a reading left.
   pub not-read : (r : FrameRead) (new : List ℕ) → r ≡ told (readFrame s limit) → new ≡ flat.slotsAfter old (readFrame s limit) → OneOf (1 ∷ 2 ∷ []) (tagOf the-type r) → Answers (answers.Reading r) l new
-  not-read r new e h k = let a = no-frame r e k in (a .0, (a .1 .0, h ∙ left (readFrame s limit) e ∙ a .1 .1))
+  not-read r new e h k = let a = no-frame r e k in (a .0, (a .1 .0, (h ∙ left (readFrame s limit) e ∙ a .1 .1 .0, a .1 .1 .1)))
     where
       left : (x : rules.Reading) → r ≡ told x → flat.slotsAfter old x ≡ old
       left (rules.frame f) e = absurd (miss (1 ∷ 2 ∷ []) 0 tt (subst (λ (x : FrameRead). OneOf (1 ∷ 2 ∷ []) (tagOf the-type x)) e k))
@@ -65,7 +83,7 @@ module _ (l s : List ℕ) (limit : ℕ) (old : List ℕ) where
 
     -- The ledger has a credit for it, or it needs none.
     pub handed : affords l o ≡ true → Answers (answers.Reading r) l' new
-    handed h = rw (read, addressed-id s limit f read ∙ sym a) (by o h q)
+    handed h = answers-all (answers.Reading r) l' new (rw (read, addressed-id s limit f read ∙ sym a) (by o h q))
       where
         with-credit : (x : Option ℕ) → admitted x ≡ true → (answers.Reading r ≡ answerOf (answerBy number x (frame f))) × (new ≡ slotsAfter old (answerBy number x (frame f)))
         with-credit none h = (ap answers.Reading is, slots)
@@ -77,7 +95,7 @@ module _ (l s : List ℕ) (limit : ℕ) (old : List ℕ) where
 
     -- The ledger refuses it.
     pub refused : (k : ℕ) → some k ≡ refusalFor l o → Answers (answers.Refused k) l' old
-    refused k p = rw (read, addressed-id s limit f read ∙ sym a) (by o p q)
+    refused k p = answers-all (answers.Refused k) l' old (rw (read, addressed-id s limit f read ∙ sym a) (by o p q))
       where
         by : (o : Option ℕ) → some k ≡ refusalFor l o → l' ≡ spent l o → (answers.Refused k ≡ answerOf (answerTo number l (actOnFrame o f))) × ((l' ≡ ledgerAfter l (actOnFrame o f)) × (old ≡ slotsAfter old (answerTo number l (actOnFrame o f))))
         by none p q = absurd (differ (ap admitted p))

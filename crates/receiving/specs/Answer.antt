@@ -1,9 +1,12 @@
 -- What receiving into slots answers, and what the slots hold afterwards.
 use mathlib.Core.List.{List}
+use mathlib.Core.Option.{Option, some}
 use Prim.Native.Nat.{ℕ}
+use Rattle.rules.specs.Answers.{Refusal, numbered}
 use Rattle.ledger.specs.Calls.{accepted, refused}
 use Rattle.credit.specs.Calls.{Reply, nothing, frame, number, short, unread}
 use Rattle.flat.specs.Flat.{flatFrame}
+use Rattle.frame_reading.specs.Answer.{refusalOf}
 use Rattle.frame_reading.specs.declared.reading.FrameRead.the-variants as reading
 use Rattle.receiving.specs.declared.receiving.Received.{Received}
 use Rattle.receiving.specs.declared.receiving.Received.the-variants.{Reading, Refused}
@@ -13,6 +16,11 @@ answerOf (accepted y) = Reading reading.Frame
 answerOf (refused (short needed)) = Reading (reading.Short needed)
 answerOf (refused (unread n place)) = Reading (reading.Refused n place)
 answerOf (refused (number n)) = Refused n
+
+-- The refusal that each answer is, in 01's terms.
+abbrev pub receivedRefusal : Received → Option Refusal
+receivedRefusal (Reading r) = refusalOf r
+receivedRefusal (Refused n) = some (numbered n)
 
 -- A refusal leaves the slots as they were.
 abbrev pub slotsAfter : List ℕ → Reply → List ℕ

@@ -1,8 +1,9 @@
 // Received frames: a Deliver spends one of its subscription's credits.
 ghost use mathlib.Core.Path.{_≡_};
 ghost use Rattle.credit.specs.Calls.{received};
+ghost use Rattle.credit.specs.Numbers.{creditRefusal};
 ghost use Rattle.credit.specs.Step.{answer, after};
-ghost use Rattle.receiving.specs.Answer.{answerOf, slotsAfter};
+ghost use Rattle.receiving.specs.Answer.{answerOf, receivedRefusal, slotsAfter};
 use crate::subscription::affords;
 use crate::subscription::spend;
 use crate::subscription::subscription_of;
@@ -27,6 +28,7 @@ pub fn receive(
     ensures { λ r. ⌜ r ≡ answerOf (answer (now (credits .entry)) (received (now (bytes .entry)) limit)) ⌝ }
     ensures { λ _. ⌜ now (credits .exit) ≡ after (now (credits .entry)) (received (now (bytes .entry)) limit) ⌝ }
     ensures { λ _. ⌜ now (slots .exit) ≡ slotsAfter (now (slots .entry)) (answer (now (credits .entry)) (received (now (bytes .entry)) limit)) ⌝ }
+    ensures { λ r. ⌜ receivedRefusal r ≡ creditRefusal (answer (now (credits .entry)) (received (now (bytes .entry)) limit)) ⌝ }
 {
     let subscription = subscription_of(bytes);
     if affords(credits, subscription) {

@@ -39,6 +39,10 @@ numbered-repeated {A} read h (suc n) s at = by (read s at) (h s at) (λ next. nu
 abbrev pub FieldNumber : ℕ → Type 0
 FieldNumber n = (6 ≤ n) × (n ≤ 11)
 
+abbrev pub FieldNumbered : {A : Type 0} → Outcome A → Type 0
+FieldNumbered (got a next) = Unit
+FieldNumbered (refused n p) = FieldNumber n
+
 abbrev pub isFieldNumber : ℕ → Bool
 isFieldNumber n = leb 6 n && leb n 11
 

@@ -1,7 +1,7 @@
 -- What the question finds, as the number that the host gets.
 use mathlib.Core.Path.{_∙_, ap}
 use borrow.Author.Needs.{needs}
-use Rattle.krevilosh.specs.Answer.{nextNumber}
+use Rattle.krevilosh.specs.Answer.{nextAnswer}
 use Rattle.krevilosh.proofs.entries.krevilosh_chunk_next.Statement.{statement}
 use Rattle.krevilosh.proofs.entries.krevilosh_chunk_next.Tie as tie
 
@@ -11,4 +11,4 @@ krevilosh-chunk-next-spec =
     (tie.spec
     (λ c κs. search needs)
     (λ c κs. search needs)
-    (λ c. let asked = c .before .next-entry .ensures in (c .number-of .ensures ∙ ap nextNumber (asked .0), asked .1)))
+    (λ c. let asked = c .before .next-entry .ensures in (c .number-of .ensures ∙ ap nextAnswer (asked .0), asked .1)))

@@ -1,12 +1,11 @@
 -- The number of what reading answers. A frame needs a bounded number of bytes.
-use mathlib.Core.Path.{_∙_, sym, ap, subst}
+use mathlib.Core.Path.{_∙_, ap}
 use native.Mathlib.Omega.{arith}
 use borrow.Author.Needs.{needs}
 use denote.Ref.{now}
 use Rattle.wire.specs.Integers.{Bytes}
-use Rattle.rules.specs.Reading.{readFrame}
-use Rattle.krevilosh.specs.Answer.{numberRead, NeededFits}
-use Rattle.krevilosh.proofs.Answers.{needed-fits, read-number}
+use Rattle.krevilosh.specs.Answer.{refusalAnswer}
+use Rattle.krevilosh.proofs.Answers.{needed-fits}
 use Rattle.krevilosh.proofs.reading.krevilosh_read.Statement.{statement}
 use Rattle.krevilosh.proofs.reading.krevilosh_read.Tie as tie
 
@@ -19,8 +18,7 @@ krevilosh-read-spec =
     (λ c κs.
     let known = c .before .before in
     let a = known .before .args in
-    subst NeededFits (sym (c .read .ensures .0)) (needed-fits (now (a .bytes)) (a .limit) (λ i. omega (arith, known .shared-slice-known .given i))))
+    needed-fits (now (a .bytes)) (a .limit) (c .read .result) (λ i. omega (arith, known .shared-slice-known .given i)) (c .read .ensures .1 .1))
     (λ c.
     let read = c .before in
-    let a = read .before .before .before .args in
-    (c .number-of .ensures ∙ ap numberRead (read .read .ensures .0) ∙ read-number (readFrame (now (a .bytes)) (a .limit)), read .read .ensures .1)))
+    (c .number-of .ensures ∙ ap refusalAnswer (read .read .ensures .1 .1), read .read .ensures .1 .0)))
