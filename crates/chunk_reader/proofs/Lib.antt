@@ -5,3 +5,4 @@ pub mod Held
 pub mod SlotCalls
 pub mod SlotRuns
 pub mod Delivers
+pub mod AskedMessages

@@ -4,3 +4,4 @@ pub mod Reader
 pub mod Run
 pub mod Slots
 pub mod SlotRun
+pub mod Asked
