@@ -109,6 +109,8 @@ uint64_t krevilosh_write(const uint64_t frame[24], const uint8_t *source, size_t
  * count, place and length are the list's three slots.
  * Refusals: 10 for another shape, 6 for a place outside the source, 10 for an index at or above the count, then those of
  * the elements up to and including the one asked for, as when read.
+ * In a frame that was read every index below the count is found: no element is missing before the first refusal
+ * (theorem EverythingIsFound, crates/elements/specs/Found.antt).
  */
 uint64_t krevilosh_element(uint8_t shape, const uint8_t *source, size_t source_len, uint64_t count, uint64_t place,
                            uint64_t length, uint64_t index, uint64_t element[8]);
@@ -119,6 +121,9 @@ uint64_t krevilosh_element(uint8_t shape, const uint8_t *source, size_t source_l
  * Refusals: 4 for another key, 5 for another version, 6 for a place outside the source, 10 for a chunk of a type other
  * than 0, an index at or above its entries or an entry count above 65,535, then those of the entries up to and including
  * the one asked for.
+ * In a Deliver that was read every index below the entries of a chunk of type 0 is found, and every other is refused with
+ * 10: a host that asks for 0, 1, 2 and so on and stops at the first refusal misses no message (theorem
+ * EveryMessageIsFound, crates/krevilosh/specs/Messages.antt).
  * A call goes over all entries before the one that it is asked for. To walk the messages of a chunk, use the chunk reader,
  * which goes over each entry once.
  */
@@ -151,7 +156,8 @@ uint64_t krevilosh_chunk_open(const uint8_t *chunk, size_t len, uint64_t reader[
  * other slots are 0. The chunk is the one that the reader was opened with.
  *   1 above the refusal number   an entry, and the reader has moved past it
  *   0 above it                   the end: no entries are left, and reader and entry stay as they were
- * Of a chunk that was opened no entry is refused. A reader that the host filled itself, or bytes that were changed, get an
+ * Of a chunk that was opened no entry is refused: every message is given once, in order, and then the end, however often
+ * it is asked for (theorem SlotRun, crates/chunk_reader/specs/SlotRun.antt). A reader that the host filled itself, or bytes that were changed, get an
  * answer too: the end where no entries are left, whatever the place, else what the entry at the place gives. A message
  * that is given always lies in the chunk.
  * Refusals: 6 for an entry of which not four bytes are there, 10 if its top bit is 1, 6 for a message that is cut.

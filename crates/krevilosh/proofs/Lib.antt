@@ -3,3 +3,4 @@ mod Answers
 mod Lengths
 mod Questions
 pub mod HostNumbers
+pub mod Messages

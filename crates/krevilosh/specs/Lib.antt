@@ -2,4 +2,5 @@
 pub mod Answer
 pub mod Numbers
 pub mod Asked
+pub mod Messages
 pub mod Shapes
