@@ -10,6 +10,9 @@
  *
  * A byte slice is a pointer and a length. Where the length is 0 the pointer may be null. Arrays have the size that is
  * written here. What a function changes must not overlap what it reads.
+ *
+ * A call uses at most 2,048 bytes of stack on x86-64. Of the C library the archive calls memcpy, memmove and memset, whose
+ * stack is not counted, and nothing else.
  */
 #ifndef KREVILOSH_H
 #define KREVILOSH_H
