@@ -31,6 +31,7 @@ use Rattle.flat.specs.Flat.{flatFrame, padded}
 use Rattle.chunk_reader.specs.Asked.{chunkAt}
 use Rattle.chunk_reader.specs.Run.{Good, WellFormed}
 use Rattle.chunk_reader.specs.SlotRun.{ChunkThere, ChunkOfADeliver}
+use Rattle.chunk_reader.proofs.SlotRuns.{slot-run}
 
 -- The encoding of a valid chunk is a well-formed chunk.
 encoded : (t : List ℕ) (h : ChunkHeader) (e : List ℕ) → ValidChunk h e → t ≡ encodeHeader h ++ e → WellFormed t
@@ -212,7 +213,9 @@ module _ (s : List ℕ) (m : ℕ) (w : 8 + m ≤ length s) where
         }
 
     there : (slots : List ℕ) (i : ℕ) → getD slots i 0 ≡ 8 + (at + 48) → getD slots (i + 1) 0 ≡ len → ChunkThere s slots i
-    there slots i p q = record { header = rw p (stands .room); inside = rw (p, q) (stands .inside); whole = rw (p, q) (stands .whole) }
+    there slots i p q =
+        let whole : WellFormed (take (48 + getD slots (i + 1) 0) (drop (getD slots i 0 - 48) s)) = rw (p, q) (stands .whole) in
+        record { header = rw p (stands .room); inside = rw (p, q) (stands .inside); whole = whole; opened = slot-run _ .opens whole [] .0 }
 
     -- The chunk is the last field.
     last-stands : (before : List (Field Place)) (h : ChunkHeader) (p : Place) → map (overPlaces (further 8)) fs ≡ before ++ (F.chunk h p ∷ []) → ChunkStands s h p

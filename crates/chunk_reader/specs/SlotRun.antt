@@ -69,13 +69,14 @@ pub record SlotRun (s : List ℕ) : Type 0 where
   pub entryRefused : (at left x y : ℕ) (e : List ℕ) (number p : ℕ) → readEntry s at ≡ refused number p → Answers s (lent (at ∷ suc left ∷ x ∷ y ∷ []) e) (Refused number) (lent (at ∷ suc left ∷ x ∷ y ∷ []) e) × (number ≡ 0 → ⊥)
 
 -- Where a flat Deliver says that its chunk's data stands, from the slot i on: the 48 bytes of the header stand before the
--- data, the data lies in the bytes, and the two together are one well-formed chunk.
+-- data, the data lies in the bytes, and the two together are one well-formed chunk, which is opened.
 pub record ChunkThere (s slots : List ℕ) (i : ℕ) : Type 0 where
   pub header : 48 ≤ getD slots i 0
   pub inside : getD slots i 0 + getD slots (i + 1) 0 ≤ length s
   pub whole : WellFormed (take (48 + getD slots (i + 1) 0) (drop (getD slots i 0 - 48) s))
+  pub opened : openNumber (take (48 + getD slots (i + 1) 0) (drop (getD slots i 0 - 48) s)) ≡ 0
 
--- So the chunk of every Deliver that was read is opened.
+-- So it is with the chunk of every Deliver that was read.
 abbrev pub ChunkOfADeliver : Type 0
 ChunkOfADeliver =
     (s : List ℕ) (limit : ℕ) (f : Fields Place) → Bytes s → readFrame s limit ≡ frame f → f .key ≡ 0x0008
