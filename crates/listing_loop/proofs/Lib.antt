@@ -1,0 +1,3 @@
+-- Why a session stands where its reads and writes have led to.
+pub mod Standings
+pub mod Listings

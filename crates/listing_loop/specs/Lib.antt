@@ -1,0 +1,3 @@
+-- What a listing has read and handed out, and where it stands.
+pub mod History
+pub mod Standing
