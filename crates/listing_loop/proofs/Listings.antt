@@ -15,7 +15,7 @@ use Rattle.captures.specs.declared.listing.Progress.{Progress}
 use Rattle.captures.specs.declared.listing.State.{State}
 use Rattle.captures.specs.declared.listing.State.the-variants.{Going, More, Done, TooLong as Long}
 use Rattle.listing_loop.specs.History.{History, capture, handed}
-use Rattle.listing_loop.specs.Standing.{Fits, Begins, Because, next, Stands, isFailed, stageListed}
+use Rattle.listing_loop.specs.Standing.{Fits, Begins, Because, next, Stands, isListing, isFailed, stageListed}
 use Rattle.listing_loop.specs.declared.session.Session.{Session}
 use Rattle.listing_loop.specs.declared.session.Stage.{Stage}
 use Rattle.listing_loop.specs.declared.session.Stage.the-variants.{Listing}
@@ -27,6 +27,15 @@ begins-after Going all made left e = e
 begins-after More all made left e = e
 begins-after Done all made left e = e ∙ append-nil made
 begins-after Long all made left e = e
+
+pub not-listing : (x : Stage) (y : State) → x ≡ stageListed y → isListing x ≡ false
+not-listing x y e = rw e (by y)
+  where
+    by : (y : State) → isListing (stageListed y) ≡ false
+    by Going = refl
+    by More = refl
+    by Done = refl
+    by Long = refl
 
 not-failed : (x : State) → isFailed (stageListed x) ≡ false
 not-failed Going = refl
@@ -70,7 +79,19 @@ module _ (h : History) (s : Session) (window text : List ℕ) (st : Stands h s w
   room-length : length text ≡ s .waiting + room
   room-length = let i = length-take (length text - s .waiting) (drop (s .waiting) text) in let j = length-drop (s .waiting) text in omega (arith, i, j, st .fits .room)
 
-  module _ (p : Progress) (part text' : List ℕ) (t : text' ≡ take (s .waiting) text ++ (part ++ drop (length text - s .waiting) (drop (s .waiting) text))) (same : length text' ≡ length text) (l : Lists left (s .ended) (record { from = 0; offset = s .offset; frames = s .frames; written = 0; state = Going }) (take (length text - s .waiting) (drop (s .waiting) text)) part p) where
+  module _ (p : Progress) (part text' : List ℕ) (t : text' ≡ take (s .waiting) text ++ (part ++ drop (length text - s .waiting) (drop (s .waiting) text))) (l : Lists left (s .ended) (record { from = 0; offset = s .offset; frames = s .frames; written = 0; state = Going }) (take (length text - s .waiting) (drop (s .waiting) text)) part p) where
+    same : length text' ≡ length text
+    same =
+        let rest : List ℕ = drop (length text - s .waiting) (drop (s .waiting) text) in
+        let a = ap length t in
+        let b = length-append (take (s .waiting) text) (part ++ rest) in
+        let c = length-append part rest in
+        let d = length-take-le (s .waiting) text (st .fits .room) in
+        let f = lists-length _ _ _ _ _ _ l in
+        let g = length-drop (length text - s .waiting) (drop (s .waiting) text) in
+        let i = length-drop (s .waiting) text in
+        omega (arith, a, b, c, d, f, g, i, room-length)
+
     further : p .offset ≡ s .offset + p .from
     further = omega (arith, l .place)
 
@@ -97,8 +118,8 @@ module _ (h : History) (s : Session) (window text : List ℕ) (st : Stands h s w
         ∙ (sym (append-assoc made (l .text) after)
         ∙ ap (λ (y : List ℕ). y ++ after) (append-assoc (handed h) (take (s .waiting) text) (l .text) ∙ ap (λ (y : List ℕ). handed h ++ y) (sym g))))))
 
-    pub listed-stands : (x : Stage) → x ≡ stageListed (p .state) → Stops left (s .ended) room p → Stands h (record { from = s .from + p .from; held = s .held; offset = p .offset; frames = p .frames; waiting = s .waiting + p .written; ended = s .ended; stage = x }) window text'
-    listed-stands x z e =
+    stands-then : (x : Stage) → x ≡ stageListed (p .state) → Stops left (s .ended) room p → Stands h (record { from = s .from + p .from; held = s .held; offset = p .offset; frames = p .frames; waiting = s .waiting + p .written; ended = s .ended; stage = x }) window text'
+    stands-then x z e =
         rw z
         (record {
           fits = record { order = omega (arith, inside, left-length, st .fits .order); inside = st .fits .inside; room = omega (arith, same, room-length, l .room) };
@@ -109,3 +130,7 @@ module _ (h : History) (s : Session) (window text : List ℕ) (st : Stands h s w
           lines = λ rest r. begins-after (p .state) _ _ _ (lines-then rest r);
           because = because-after (p .state) left (s .ended) room p (following (drop (p .offset) (capture h)) (s .ended)) (length text') (s .waiting) (ap (λ (y : List ℕ). following y (s .ended)) (rest-then (capture h))) (same ∙ room-length) e;
         })
+
+  pub listed-stands : (p : Progress) (part text' : List ℕ) → text' ≡ take (s .waiting) text ++ (part ++ drop (length text - s .waiting) (drop (s .waiting) text)) → Lists (take (s .held - s .from) (drop (s .from) window)) (s .ended) (record { from = 0; offset = s .offset; frames = s .frames; written = 0; state = Going }) (take (length text - s .waiting) (drop (s .waiting) text)) part p → Stops (take (s .held - s .from) (drop (s .from) window)) (s .ended) room p → (x : Stage) → x ≡ stageListed (p .state) → Stands h (record { from = s .from + p .from; held = s .held; offset = p .offset; frames = p .frames; waiting = s .waiting + p .written; ended = s .ended; stage = x }) window text'
+  listed-stands p part text' t l e x z =
+      stands-then p part text' t (subst (λ (w : List ℕ). Lists w (s .ended) (record { from = 0; offset = s .offset; frames = s .frames; written = 0; state = Going }) (take (length text - s .waiting) (drop (s .waiting) text)) part p) holds-rest l) x z (subst (λ (w : List ℕ). Stops w (s .ended) room p) holds-rest e)

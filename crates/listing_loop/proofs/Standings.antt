@@ -7,10 +7,11 @@ use mathlib.Core.Logic.{_⊎_, inl, inr}
 use Prim.Native.Nat.{ℕ, _+_, _-_, _≤_, _<_, min}
 use native.Mathlib.Omega.{arith}
 use lib.Dec.{leb, eqb}
-use lib.IntN.{pos, negsuc}
+use lib.IntN.{ℤ, pos, negsuc}
 use lib.ListN.{length, take, drop, length-append, length-drop, length-take}
 use lib.Seq.{slice, length-take-le, take-add, take-at, take-all, take-length, drop-at, drop-append-le}
 use borrow.Author.Tests.{leb-true, leb-false, eq-eqb, ne-eqb}
+use Rattle.io.specs.Counts.{clamped}
 use Rattle.wire.specs.Buffer.{splice}
 use Rattle.wire.proofs.Splice.{length-splice}
 use Rattle.captures.specs.Listing.{Next, more, refused, following, closes, linesOf, listing}
@@ -109,7 +110,7 @@ module _ (h : History) (s : Session) (window text : List ℕ) (st : Stands h s w
         omega (arith, m, e, l, k)
 
     -- A read that failed.
-    pub failed-stands : (k : ℕ) (part : List ℕ) → Stands (afterRead (negsuc k) part h) (record { from = s .from; held = s .held; offset = s .offset; frames = s .frames; waiting = s .waiting; ended = s .ended; stage = Unreadable }) window text
+    failed-stands : (k : ℕ) (part : List ℕ) → Stands (afterRead (negsuc k) part h) (record { from = s .from; held = s .held; offset = s .offset; frames = s .frames; waiting = s .waiting; ended = s .ended; stage = Unreadable }) window text
     failed-stands k part =
         record {
           fits = record { order = st .fits .order; inside = st .fits .inside; room = st .fits .room };
@@ -123,6 +124,9 @@ module _ (h : History) (s : Session) (window text : List ℕ) (st : Stands h s w
 
     may-come : (rest : List ℕ) → Rest (s .ended) rest
     may-come rest = subst (λ (x : Bool). Rest x rest) (sym (more-may-come (drop (s .offset) (capture h)) (s .ended) needs-more)) tt
+
+    pub unreadable-stands : (got : ℤ) (k : ℕ) (part : List ℕ) → got ≡ negsuc k → Stands (afterRead got part h) (record { from = s .from; held = s .held; offset = s .offset; frames = s .frames; waiting = s .waiting; ended = s .ended; stage = Unreadable }) window text
+    unreadable-stands got k part e = rw e (failed-stands k part)
 
     -- A read that gave so many bytes.
     module _ (n m : ℕ) (part : List ℕ) (p : part ≡ drop (s .held) window) (e : m ≡ min n (length part)) where
@@ -146,9 +150,9 @@ module _ (h : History) (s : Session) (window text : List ℕ) (st : Stands h s w
           ∙ (ap (λ (x : List ℕ). drop (s .offset) (capture h) ++ x) (ap (take m) (sym p) ∙ all-given)
           ∙ sym (drop-append-le (s .offset) (capture h) (take n part) (st .within)))))
 
-      pub read-stands : Stands (afterRead (pos n) part h) (record { from = s .from; held = s .held + m; offset = s .offset; frames = s .frames; waiting = s .waiting; ended = eqb m 0; stage = Listing }) window text
+      gave-stands : Stands (afterRead (pos n) part h) (record { from = s .from; held = s .held + m; offset = s .offset; frames = s .frames; waiting = s .waiting; ended = eqb m 0; stage = Listing }) window text
       unfolding inOrder
-      read-stands =
+      gave-stands =
           record {
             fits = record { order = omega (arith, st .fits .order); inside = omega (arith, e, part-length, st .fits .inside); room = st .fits .room };
             ends = ended-by (take n part) (h .reads) m (e ∙ sym (length-take n part));
@@ -158,6 +162,9 @@ module _ (h : History) (s : Session) (window text : List ℕ) (st : Stands h s w
             lines = λ rest r. rw (append-assoc (capture h) (take n part) rest) (left-so (take n part ++ rest) (may-come (take n part ++ rest)));
             because = tt;
           }
+
+    pub read-stands : (got : ℤ) (n m : ℕ) (part : List ℕ) → got ≡ pos n → part ≡ drop (s .held) window → m ≡ clamped (pos n) (length part) → Stands (afterRead got part h) (record { from = s .from; held = s .held + m; offset = s .offset; frames = s .frames; waiting = s .waiting; ended = eqb m 0; stage = Listing }) window text
+    read-stands got n m part z p e = rw z (gave-stands n m part p e)
 
   -- A write of the text that waits, which took it or failed.
   module _ (taken : Bool) where

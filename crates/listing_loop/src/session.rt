@@ -5,7 +5,6 @@ ghost use mathlib.Core.Path.{_≡_};
 ghost use Prim.Native.Nat.{ℕ, _+_, _≤_, _<_};
 ghost use lib.ListN.{length, take, drop};
 ghost use Rattle.captures.specs.Steps.{greatest};
-ghost use Rattle.captures.specs.declared.listing.State.{State};
 ghost use Rattle.listing_loop.specs.History.{History, nothingYet, afterRead, afterWrite};
 ghost use Rattle.listing_loop.specs.Standing.{Fits, Stands, isListing, isOver, stageListed, stageRead, stageWritten, Ran};
 ghost use Rattle.listing_loop.specs.declared.session.Stage.the-variants.{Listing, Reading};
@@ -122,7 +121,7 @@ fn lists(at: Session) -> bool
 // Lists what the window holds, as far as the text has room for it.
 fn listed(window: &[u8], text: &mut [u8], at: Session) -> Session
     requires { ⌜ Fits at (now window) (now text) ⌝ }
-    ensures { λ r. ⌜ ((s : State) × (r .stage ≡ stageListed s)) ⌝ }
+    ensures { λ r. ⌜ isListing (r .stage) ≡ false ⌝ }
     ensures { λ r. ⌜ ((h : History) → at .stage ≡ Listing → Stands h at (now (window .entry)) (now (text .entry)) → Stands h r (now (window .entry)) (now (text .exit))) ⌝ }
 {
     let from = at.from;
