@@ -57,6 +57,12 @@ unfolding ended
 ended-by [] earlier m e = eq-eqb m 0 e
 ended-by (b ∷ given) earlier m e = ne-eqb m 0 (λ z. absurd (omega (arith, e, z)))
 
+-- What a read into the window from a place on is counted as.
+pub counted : (window : List ℕ) (held n m : ℕ) (got : ℤ) → m ≡ clamped got (length (take (length window - held) (drop held window))) → got ≡ pos n → m ≡ clamped (pos n) (length (drop held window))
+counted window held n m got e g =
+    let l : take (length window - held) (drop held window) ≡ drop held window = take-all (length window - held) (drop held window) (rw (length-drop held window) (omega arith)) in
+    e ∙ (ap (λ (x : List ℕ). clamped got (length x)) l ∙ ap (λ (x : ℤ). clamped x (length (drop held window))) g)
+
 module _ (h : History) (s : Session) (window text : List ℕ) (st : Stands h s window text) where
   -- A window that changes past the bytes that are held.
   pub window-kept : (window' : List ℕ) → take (s .held) window' ≡ take (s .held) window → length window' ≡ length window → Stands h s window' text
@@ -129,9 +135,12 @@ module _ (h : History) (s : Session) (window text : List ℕ) (st : Stands h s w
     unreadable-stands got k part e = rw e (failed-stands k part)
 
     -- A read that gave so many bytes.
-    module _ (n m : ℕ) (part : List ℕ) (p : part ≡ drop (s .held) window) (e : m ≡ min n (length part)) where
+    module _ (n m : ℕ) (e : m ≡ min n (length (drop (s .held) window))) where
+      abbrev part : List ℕ
+      part = drop (s .held) window
+
       part-length : length part ≡ length window - s .held
-      part-length = ap length p ∙ length-drop (s .held) window
+      part-length = length-drop (s .held) window
 
       all-given : take m part ≡ take n part
       all-given = by (leb n (length part)) refl
@@ -147,7 +156,7 @@ module _ (h : History) (s : Session) (window text : List ℕ) (st : Stands h s w
           ap (drop (s .from)) (take-add (s .held) m window)
           ∙ (drop-append-le (s .from) (take (s .held) window) (take m (drop (s .held) window)) f
           ∙ (ap (λ (x : List ℕ). x ++ take m (drop (s .held) window)) (st .unlisted)
-          ∙ (ap (λ (x : List ℕ). drop (s .offset) (capture h) ++ x) (ap (take m) (sym p) ∙ all-given)
+          ∙ (ap (λ (x : List ℕ). drop (s .offset) (capture h) ++ x) all-given
           ∙ sym (drop-append-le (s .offset) (capture h) (take n part) (st .within)))))
 
       gave-stands : Stands (afterRead (pos n) part h) (record { from = s .from; held = s .held + m; offset = s .offset; frames = s .frames; waiting = s .waiting; ended = eqb m 0; stage = Listing }) window text
@@ -163,8 +172,8 @@ module _ (h : History) (s : Session) (window text : List ℕ) (st : Stands h s w
             because = tt;
           }
 
-    pub read-stands : (got : ℤ) (n m : ℕ) (part : List ℕ) → got ≡ pos n → part ≡ drop (s .held) window → m ≡ clamped (pos n) (length part) → Stands (afterRead got part h) (record { from = s .from; held = s .held + m; offset = s .offset; frames = s .frames; waiting = s .waiting; ended = eqb m 0; stage = Listing }) window text
-    read-stands got n m part z p e = rw z (gave-stands n m part p e)
+    pub read-stands : (got : ℤ) (n m : ℕ) → got ≡ pos n → m ≡ clamped (pos n) (length (drop (s .held) window)) → Stands (afterRead got (drop (s .held) window) h) (record { from = s .from; held = s .held + m; offset = s .offset; frames = s .frames; waiting = s .waiting; ended = eqb m 0; stage = Listing }) window text
+    read-stands got n m z e = rw z (gave-stands n m e)
 
   -- A write of the text that waits, which took it or failed.
   module _ (taken : Bool) where

@@ -4,7 +4,6 @@ ghost use mathlib.Core.List.{List};
 ghost use mathlib.Core.Path.{_≡_};
 ghost use Prim.Native.Nat.{ℕ, _+_, _≤_, _<_};
 ghost use lib.ListN.{length, take, drop};
-ghost use Rattle.captures.specs.Steps.{greatest};
 ghost use Rattle.listing_loop.specs.History.{History, nothingYet, afterRead, afterWrite};
 ghost use Rattle.listing_loop.specs.Standing.{Fits, Stands, isListing, isOver, stageListed, stageRead, stageWritten, Ran};
 ghost use Rattle.listing_loop.specs.declared.session.Stage.the-variants.{Listing, Reading};
@@ -73,7 +72,7 @@ fn turns(window: &mut [u8], text: &mut [u8]) -> Session
             at = make_room(window, at);
             let held = at.held;
             let got = libc::read(STDIN_FILENO, &mut window[held..]);
-            at = received(&window[held..], at, got);
+            at = received(window, at, got);
         }
         if !lists(at) {
             let lines = waiting(text, at);
@@ -187,11 +186,11 @@ fn make_room(window: &mut [u8], at: Session) -> Session
     }
 }
 
-// After a read into this part of the window, which begins at `held`, by what the read answered.
-fn received(part: &[u8], at: Session, got: isize) -> Session
-    requires { ⌜ at .held + length (now part) ≤ greatest ⌝ }
+// After a read into the window from `held` on, by what it answered.
+fn received(window: &[u8], at: Session, got: isize) -> Session
+    requires { ⌜ at .held ≤ length (now window) ⌝ }
     ensures { λ r. ⌜ r .stage ≡ stageRead got ⌝ }
-    ensures { λ r. ⌜ ((h : History) (window text : List ℕ) → at .stage ≡ Reading → now (part .entry) ≡ drop (at .held) window → Stands h at window text → Stands (afterRead got (now (part .entry)) h) r window text) ⌝ }
+    ensures { λ r. ⌜ ((h : History) (text : List ℕ) → at .stage ≡ Reading → Stands h at (now (window .entry)) text → Stands (afterRead got (drop (at .held) (now (window .entry))) h) r (now (window .entry)) text) ⌝ }
 {
     if got < 0 {
         return Session {
@@ -204,10 +203,11 @@ fn received(part: &[u8], at: Session, got: isize) -> Session
             stage: Stage::Unreadable,
         };
     }
-    let n = io::count(got, part);
+    let held = at.held;
+    let n = io::count(got, &window[held..]);
     Session {
         from: at.from,
-        held: at.held + n,
+        held: held + n,
         offset: at.offset,
         frames: at.frames,
         waiting: at.waiting,

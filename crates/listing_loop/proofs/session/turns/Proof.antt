@@ -1,130 +1,59 @@
+-- Each turn leaves a session that stands where the reads and writes so far have led to.
+use mathlib.Core.Path.{_≡_, refl, sym, _∙_, ap}
+use mathlib.Core.Logic.{⊎-elim}
+use mathlib.Core.List.{List}
+use Prim.Native.Nat.{ℕ, _-_, _≤_}
+use native.Mathlib.Omega.{arith}
+use lib.ListN.{length}
+use mir.Syntax.{w64}
+use mir.Val.{toZ, ofZ}
+use borrow.Author.Needs.{needs}
+use borrow.Author.Tests.{not-true, not-false}
+use Rattle.captures.specs.Steps.{greatest}
+use Rattle.listing_loop.specs.History.{nothingYet}
+use Rattle.listing_loop.specs.Standing.{Stands}
+use Rattle.listing_loop.specs.declared.session.Session.{Session}
+use Rattle.listing_loop.proofs.Standings.{held-short}
+use Rattle.listing_loop.proofs.Runs.{Before, Within, nothing-read, read-then, read-again, write-again, write-over, turns-over}
 use Rattle.listing_loop.proofs.session.turns.Statement.{statement}
 use Rattle.listing_loop.proofs.session.turns.Tie as tie
-use Rattle.listing_loop.proofs.session.turns.Reads as reads
-use Rattle.listing_loop.proofs.session.turns.Lts as lts
-use Rattle.io.proofs.write_all.Reads as write-all-reads
-use Rattle.libc.proofs.read.Reads as read-reads
-use Rattle.listing_loop.proofs.session.listed.Reads as listed-reads
-use Rattle.listing_loop.proofs.session.lists.Reads as lists-reads
-use Rattle.listing_loop.proofs.session.make_room.Reads as make-room-reads
-use Rattle.listing_loop.proofs.session.received.Reads as received-reads
-use Rattle.listing_loop.proofs.session.started.Reads as started-reads
-use Rattle.listing_loop.proofs.session.waiting.Reads as waiting-reads
-use Rattle.listing_loop.proofs.session.wrote.Reads as wrote-reads
 
 abbrev Inv-loop : tie.InvT-loop
-Inv-loop window₀ text₀ made₀ at₀ window text made at = ?
+Inv-loop window₀ text₀ made₀ at₀ window text made at = Before made at window text × (length window ≡ length window₀) × (length text ≡ length text₀) × (made ≤ greatest)
 
 abbrev μ-loop : tie.MeasureT-loop
-μ-loop window₀ text₀ made₀ at₀ window text made at = ?
+μ-loop window₀ text₀ made₀ at₀ window text made at = greatest - made
 
--- src/session.rt:69:9
-started-requires : tie.Need-started-requires Inv-loop μ-loop
-started-requires c κs = ?
+-- After the window was listed.
+listed-then : (c : tie.After-listed Inv-loop μ-loop) → Stands (c .before .before .before .before .loop .inv .0 .0) (c .listed .result) (c .before .before .before .before .loop .window) (c .listed .last .1 .0)
+listed-then c = let inv = c .before .before .before .before .loop .inv .0 in c .listed .ensures .1 (inv .0) (inv .2) (inv .1)
 
--- src/session.rt:70:5
-loop-holds : tie.Need-loop-holds Inv-loop μ-loop
-loop-holds c = ?
+-- After room was made.
+room-then : (c : tie.After-make-room Inv-loop μ-loop) → Stands (c .before .before .before .before .before .before .before .before .before .before .loop .inv .0 .0) (c .make-room .result) (c .make-room .last .0) (c .before .before .before .before .before .before .listed .last .1 .0)
+room-then c = c .make-room .ensures .0 _ _ (listed-then (c .before .before .before .before .before .before))
 
--- src/session.rt:71:9
-listed-requires : tie.Need-listed-requires Inv-loop μ-loop
-listed-requires c κs = ?
+-- After a read, or none.
+joined : (c : tie.At-match-came Inv-loop μ-loop) → Within (c .before .before .before .before .before .before .before .loop .made) (c .match .at) (c .match .window) (c .before .before .before .listed .last .1 .0)
+joined c =
+    ⊎-elim
+    (λ w.
+    let listed = c .before .before .before in
+    let inv = listed .before .before .before .before .loop .inv .0 in
+    let st = w .3 .ensures .0 _ _ (listed-then listed) in
+    let reading = w .3 .ensures .1 .0 ∙ w .1 .given .1 in
+    read-then _ _ _ _ _ _ _ _ _ _ (toZ w64 (ofZ w64 (w .7 .result))) st reading (inv .3) refl (w .8 .given .1) (w .11 .ensures .0) (w .11 .ensures .1) (w .13) (w .12))
+    (λ w.
+    let listed = c .before .before .before in
+    let inv = listed .before .before .before .before .loop .inv .0 in
+    nothing-read _ _ _ _ _ _ (inv .0) (listed-then listed) (inv .3) (listed .listed .ensures .0) (w .2) (w .1))
+    (c .match .came)
 
--- src/session.rt:74:28
-enum-told : tie.Need-enum-told Inv-loop μ-loop
-enum-told c = ?
-
--- src/session.rt:74:13
-make-room-requires : tie.Need-make-room-requires Inv-loop μ-loop
-make-room-requires c κs = ?
-
--- src/session.rt:76:48
-sub-read : tie.Need-sub-read Inv-loop μ-loop
-sub-read c = ?
-
--- src/session.rt:76:48
-part-read-start : tie.Need-part-read-start Inv-loop μ-loop
-part-read-start c = ?
-
--- src/session.rt:76:48
-part-read-end : tie.Need-part-read-end Inv-loop μ-loop
-part-read-end c = ?
-
--- src/session.rt:76:17
-read-requires : tie.Need-read-requires Inv-loop μ-loop
-read-requires c κs = ?
-
--- src/session.rt:77:27
-sub-received : tie.Need-sub-received Inv-loop μ-loop
-sub-received c = ?
-
--- src/session.rt:77:27
-part-received-start : tie.Need-part-received-start Inv-loop μ-loop
-part-received-start c = ?
-
--- src/session.rt:77:27
-part-received-end : tie.Need-part-received-end Inv-loop μ-loop
-part-received-end c = ?
-
--- src/session.rt:77:13
-received-requires : tie.Need-received-requires Inv-loop μ-loop
-received-requires c κs = ?
-
--- src/session.rt:79:13
-lists-requires : tie.Need-lists-requires Inv-loop μ-loop
-lists-requires c κs = ?
-
--- src/session.rt:80:17
-waiting-requires : tie.Need-waiting-requires Inv-loop μ-loop
-waiting-requires c κs = ?
-
--- src/session.rt:81:17
-write-all-requires : tie.Need-write-all-requires Inv-loop μ-loop
-write-all-requires c κs = ?
-
--- src/session.rt:82:13
-wrote-requires : tie.Need-wrote-requires Inv-loop μ-loop
-wrote-requires c κs = ?
-
--- src/session.rt:83:17
-lists-requires-2 : tie.Need-lists-requires-2 Inv-loop μ-loop
-lists-requires-2 c κs = ?
-
--- src/session.rt:84:17
-same-length : tie.Need-same-length Inv-loop μ-loop
-same-length c = ?
-
--- src/session.rt:84:17
-same-length-2 : tie.Need-same-length-2 Inv-loop μ-loop
-same-length-2 c = ?
-
--- src/session.rt:84:17
-returns : tie.Need-returns Inv-loop μ-loop
-returns c = ?
-
--- src/session.rt:87:9
-add-made : tie.Need-add-made Inv-loop μ-loop
-add-made c = ?
-
--- src/session.rt:70:5
-loop-less : tie.Need-loop-less Inv-loop μ-loop
-loop-less c = ?
-
--- src/session.rt:70:5
-loop-again : tie.Need-loop-again Inv-loop μ-loop
-loop-again c = ?
-
--- src/session.rt:64:1
-same-length-3 : tie.Need-same-length-3 Inv-loop μ-loop
-same-length-3 c = ?
-
--- src/session.rt:64:1
-same-length-4 : tie.Need-same-length-4 Inv-loop μ-loop
-same-length-4 c = ?
-
--- src/session.rt:64:1
-returns-2 : tie.Need-returns-2 Inv-loop μ-loop
-returns-2 c = ?
+joined-length : (c : tie.At-match-came Inv-loop μ-loop) → length (c .match .window) ≡ length (c .before .before .before .before .before .before .before .before .before .before .before .args .window .now)
+joined-length c =
+    ⊎-elim
+    (λ w. ap length (w .12) ∙ (w .8 .given .1 ∙ (w .4 .given ∙ c .before .before .before .before .before .before .before .loop .inv .1)))
+    (λ w. ap length (w .1) ∙ c .before .before .before .before .before .before .before .loop .inv .1)
+    (c .match .came)
 
 pub turns-spec : {M : Type 1} → statement M
 turns-spec =
@@ -132,30 +61,47 @@ turns-spec =
     (tie.spec
     Inv-loop
     μ-loop
-    started-requires
-    loop-holds
-    listed-requires
-    enum-told
-    make-room-requires
-    sub-read
-    part-read-start
-    part-read-end
-    read-requires
-    sub-received
-    part-received-start
-    part-received-end
-    received-requires
-    lists-requires
-    waiting-requires
-    write-all-requires
-    wrote-requires
-    lists-requires-2
-    same-length
-    same-length-2
-    returns
-    add-made
-    loop-less
-    loop-again
-    same-length-3
-    same-length-4
-    returns-2)
+    (λ c κs. tt)
+    (λ c. ((nothingYet, c .started .ensures .1 _ _, c .started .ensures .0, refl), refl, refl, omega arith))
+    (λ c κs. c .before .before .before .loop .inv .0 .1 .fits)
+    (λ c. search needs)
+    (λ c κs. 
+    let fits = listed-then (c .before .before .before .before .before) .fits in
+    let same = c .before .before .before .before .before .before .before .before .before .loop .inv .1 in
+    let roomy = c .before .before .before .before .before .before .before .before .before .before .before .before .before .pre in
+    (fits .order, (fits .inside, omega (arith, same, roomy))))
+    (λ c. room-then (c .before .before) .fits .inside)
+    (λ c. let inside = room-then (c .before .before) .fits .inside in omega (arith, inside))
+    (λ c. let inside = room-then (c .before .before) .fits .inside in search needs)
+    (λ c κs. tt)
+    (λ c κs.
+    let inside = room-then (c .before .before .before .before .before .before .before) .fits .inside in
+    let same = c .before .before .window2 .given .1 in
+    omega (arith, inside, same))
+    (λ c κs. tt)
+    (λ c κs. joined (c .before .before .before) .1 .fits .room)
+    (λ c κs. tt)
+    (λ c κs. tt)
+    (λ c κs. tt)
+    (λ c. joined-length (c .before .before .before .before .before .before .before .before))
+    (λ c. c .before .before .before .before .before .before .before .before .before .before .text .given ∙ c .before .before .before .before .before .before .before .before .before .before .before .before .before .before .before .loop .inv .2)
+    (λ c.
+    let wrote = c .before .before .wrote in
+    let at = c .before .before .before .before .before .before .before .before in
+    let due = sym (c .before .before .before .before .before .before .before .lists .ensures) ∙ not-true _ (c .before .before .before .before .before .before .if1 .taken) in
+    let over = sym (c .before .lists2 .ensures) ∙ not-true _ (c .if2 .taken) in
+    write-over _ _ _ _ _ _ (c .before .before .before .write-all .result) (joined at) due (c .before .before .before .before .waiting .ensures) (wrote .ensures .1 .1) (wrote .ensures .0) (wrote .ensures .1 .0) over)
+    (λ c. search needs)
+    (λ c. omega arith)
+    (λ c.
+    let at = c .before .before in
+    (⊎-elim
+    (λ w. 
+    let due = sym (c .before .lists .ensures) ∙ not-true _ (w .0 .taken) in
+    let on = sym (w .5 .ensures) ∙ not-false _ (w .6 .left) in
+    write-again _ _ _ _ _ _ (w .3 .result) (joined at) due (w .2 .ensures) (w .4 .ensures .1 .1) _ on (w .7))
+    (λ w. let on = sym (c .before .lists .ensures) ∙ not-false _ (w .0 .left) in read-again _ _ _ _ _ (joined at) on (w .1))
+    (c .if1 .came), joined-length at, c .before .before .before .before .text .given ∙ c .before .before .before .before .before .before .before .before .before .loop .inv .2, omega arith))
+    (λ c. c .before .loop .inv .1)
+    (λ c. c .before .loop .inv .2)
+    (λ c. turns-over _ _ _ _ (c .before .loop .inv .0) (c .loop-test .left) (c .before .loop .inv .3)))
