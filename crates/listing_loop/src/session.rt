@@ -186,9 +186,10 @@ fn make_room(window: &mut [u8], at: Session) -> Session
     }
 }
 
-// After a read into the window from `held` on, by what it answered.
+// After a read into the window from `held` on, by what it answered. There has to be room: a read into none gives nothing,
+// which says nothing of the input's end.
 fn received(window: &[u8], at: Session, got: isize) -> Session
-    requires { ⌜ at .held ≤ length (now window) ⌝ }
+    requires { ⌜ at .held < length (now window) ⌝ }
     ensures { λ r. ⌜ r .stage ≡ stageRead got ⌝ }
     ensures { λ r. ⌜ ((h : History) (text : List ℕ) → at .stage ≡ Reading → Stands h at (now (window .entry)) text → Stands (afterRead got (drop (at .held) (now (window .entry))) h) r (now (window .entry)) text) ⌝ }
 {

@@ -2,7 +2,7 @@
 use mathlib.Core.Path.{_≡_, refl, sym, _∙_, ap}
 use mathlib.Core.Logic.{⊎-elim}
 use mathlib.Core.List.{List}
-use Prim.Native.Nat.{ℕ, _-_, _≤_}
+use Prim.Native.Nat.{ℕ, _-_, _<_, _≤_}
 use native.Mathlib.Omega.{arith}
 use lib.ListN.{length}
 use mir.Syntax.{w64}
@@ -31,6 +31,9 @@ listed-then c = let inv = c .before .before .before .before .loop .inv .0 in c .
 -- After room was made.
 room-then : (c : tie.After-make-room Inv-loop μ-loop) → Stands (c .before .before .before .before .before .before .before .before .before .before .loop .inv .0 .0) (c .make-room .result) (c .make-room .last .0) (c .before .before .before .before .before .before .listed .last .1 .0)
 room-then c = c .make-room .ensures .0 _ _ (listed-then (c .before .before .before .before .before .before))
+
+room-left : (c : tie.After-make-room Inv-loop μ-loop) → c .make-room .result .held < length (c .make-room .last .0)
+room-left c = c .make-room .ensures .1 .1 (held-short _ _ _ _ (listed-then (c .before .before .before .before .before .before)) (c .before .before .enum-told .given .1))
 
 -- After a read, or none.
 joined : (c : tie.At-match-came Inv-loop μ-loop) → Within (c .before .before .before .before .before .before .before .loop .made) (c .match .at) (c .match .window) (c .before .before .before .listed .last .1 .0)
@@ -65,7 +68,7 @@ turns-spec =
     (λ c. ((nothingYet, c .started .ensures .1 _ _, c .started .ensures .0, refl), refl, refl, omega arith))
     (λ c κs. c .before .before .before .loop .inv .0 .1 .fits)
     (λ c. search needs)
-    (λ c κs. 
+    (λ c κs.
     let fits = listed-then (c .before .before .before .before .before) .fits in
     let same = c .before .before .before .before .before .before .before .before .before .loop .inv .1 in
     let roomy = c .before .before .before .before .before .before .before .before .before .before .before .before .before .pre in
@@ -74,10 +77,7 @@ turns-spec =
     (λ c. let inside = room-then (c .before .before) .fits .inside in omega (arith, inside))
     (λ c. let inside = room-then (c .before .before) .fits .inside in search needs)
     (λ c κs. tt)
-    (λ c κs.
-    let inside = room-then (c .before .before .before .before .before .before .before) .fits .inside in
-    let same = c .before .before .window2 .given .1 in
-    omega (arith, inside, same))
+    (λ c κs. let room = room-left (c .before .before .before .before .before .before .before) in let same = c .before .before .window2 .given .1 in omega (arith, room, same))
     (λ c κs. tt)
     (λ c κs. joined (c .before .before .before) .1 .fits .room)
     (λ c κs. tt)
@@ -94,14 +94,18 @@ turns-spec =
     (λ c. search needs)
     (λ c. omega arith)
     (λ c.
-    let at = c .before .before in
-    (⊎-elim
-    (λ w. 
-    let due = sym (c .before .lists .ensures) ∙ not-true _ (w .0 .taken) in
-    let on = sym (w .5 .ensures) ∙ not-false _ (w .6 .left) in
-    write-again _ _ _ _ _ _ (w .3 .result) (joined at) due (w .2 .ensures) (w .4 .ensures .1 .1) _ on (w .7))
-    (λ w. let on = sym (c .before .lists .ensures) ∙ not-false _ (w .0 .left) in read-again _ _ _ _ _ (joined at) on (w .1))
-    (c .if1 .came), joined-length at, c .before .before .before .before .text .given ∙ c .before .before .before .before .before .before .before .before .before .loop .inv .2, omega arith))
+    let at = c .before .before in (
+      ⊎-elim
+          (λ w.
+          let due = sym (c .before .lists .ensures) ∙ not-true _ (w .0 .taken) in
+          let on = sym (w .5 .ensures) ∙ not-false _ (w .6 .left) in
+          write-again _ _ _ _ _ _ (w .3 .result) (joined at) due (w .2 .ensures) (w .4 .ensures .1 .1) _ on (w .7))
+          (λ w. let on = sym (c .before .lists .ensures) ∙ not-false _ (w .0 .left) in read-again _ _ _ _ _ (joined at) on (w .1))
+          (c .if1 .came),
+      joined-length at,
+      c .before .before .before .before .text .given ∙ c .before .before .before .before .before .before .before .before .before .loop .inv .2,
+      omega arith,
+    ))
     (λ c. c .before .loop .inv .1)
     (λ c. c .before .loop .inv .2)
     (λ c. turns-over _ _ _ _ (c .before .loop .inv .0) (c .loop-test .left) (c .before .loop .inv .3)))
