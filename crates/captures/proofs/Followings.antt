@@ -13,7 +13,7 @@ use borrow.Author.Tests.{ltb-true, ltb-false}
 use Rattle.wire.proofs.Widths.{in-part}
 use Rattle.wire.specs.Integers.{bigEndian}
 use Rattle.protocol.specs.Decision.{Decision, layout, unlistedKey, unlistedVersion, decide}
-use Rattle.protocol.specs.Fields.{Field, Fields}
+use Rattle.protocol.specs.Fields.{Field}
 use Rattle.protocol.specs.Table.{rowOf}
 use Rattle.protocol.specs.declared.place.Place.{Place}
 use Rattle.rules.proofs.Gives.{choice}

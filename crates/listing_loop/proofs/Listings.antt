@@ -1,21 +1,22 @@
 -- What the window holds is what was read from the offset on. So a listing of it makes the lines that come next in the listing of
 -- the capture, and stops for a reason that holds of the capture too. Assumes nothing.
 use mathlib.Core.Path.{_≡_, refl, sym, _∙_, ap, subst}
-use mathlib.Core.Bool.{Bool, true, false}
-use mathlib.Core.List.{List, [], _∷_, _++_, append-assoc, append-nil}
-use Prim.Native.Nat.{ℕ, _+_, _-_, _≤_, _<_}
+use mathlib.Core.Bool.{Bool, false}
+use mathlib.Core.List.{List, _++_, append-assoc, append-nil}
+use Prim.Native.Nat.{ℕ, _+_, _-_, _≤_}
 use native.Mathlib.Omega.{arith}
 use lib.ListN.{length, take, drop, length-append, length-drop, length-take}
-use lib.Seq.{slice, length-take-le, take-append-add, take-append-seam, drop-drop, drop-append-le}
+use lib.Seq.{length-take-le, take-append-add, take-append-seam, drop-drop, drop-append-le}
 use Rattle.wire.specs.Buffer.{splice}
 use Rattle.captures.specs.Listing.{Next, following, closes, linesOf, listing}
-use Rattle.captures.specs.Steps.{begun, Rest, behind, Lists, Stopped, Stops}
+use Rattle.captures.specs.Steps.{Rest, behind, Lists, Stopped, Stops}
 use Rattle.captures.proofs.Listings.{lists-length}
 use Rattle.captures.specs.declared.listing.Progress.{Progress}
 use Rattle.captures.specs.declared.listing.State.{State}
 use Rattle.captures.specs.declared.listing.State.the-variants.{Going, More, Done, TooLong as Long}
 use Rattle.listing_loop.specs.History.{History, capture, handed}
-use Rattle.listing_loop.specs.Standing.{Fits, Begins, Because, next, Stands, isListing, isFailed, stageListed}
+use Rattle.listing_loop.specs.Stages.{isListing, isFailed, stageListed}
+use Rattle.listing_loop.specs.Standing.{Begins, Because, Stands}
 use Rattle.listing_loop.specs.declared.session.Session.{Session}
 use Rattle.listing_loop.specs.declared.session.Stage.{Stage}
 use Rattle.listing_loop.specs.declared.session.Stage.the-variants.{Listing}

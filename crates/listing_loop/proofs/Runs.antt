@@ -1,21 +1,23 @@
 -- Each turn makes one read, or one write. After a read that failed what waits is written in the same turn, and the run is over.
 -- Assumes nothing.
-use mathlib.Core.Path.{_≡_, refl, sym, _∙_, ap, subst}
+use mathlib.Core.Path.{_≡_, refl, sym, _∙_, ap}
 use mathlib.Core.Bool.{Bool, true, false, cond}
 use mathlib.Core.List.{List, _++_}
-use mathlib.Core.Logic.{_⊎_, inl, inr}
+use mathlib.Core.Logic.{inl, inr}
 use Prim.Native.Nat.{ℕ, _+_, _≤_}
 use native.Mathlib.Omega.{arith}
 use lib.IntN.{ℤ, pos, negsuc}
 use lib.ListN.{length, take, drop}
 use lib.Seq.{length-take-le, take-at}
 use Rattle.captures.specs.Steps.{greatest}
-use Rattle.listing_loop.specs.History.{History, nothingYet, afterRead, afterWrite}
-use Rattle.listing_loop.specs.Standing.{Stands, isListing, isOver, stageRead, stageWritten, Ran}
+use Rattle.listing_loop.specs.History.{History, afterRead, afterWrite}
+use Rattle.listing_loop.specs.Run.{Ran}
+use Rattle.listing_loop.specs.Stages.{isListing, isOver, stageRead, stageWritten}
+use Rattle.listing_loop.specs.Standing.{Stands}
 use Rattle.listing_loop.specs.declared.session.Session.{Session}
 use Rattle.listing_loop.specs.declared.session.Stage.{Stage}
 use Rattle.listing_loop.specs.declared.session.Stage.the-variants.{Listing, Full, Reading, Listed, TooLong, Unreadable, Unwritable}
-use Rattle.listing_loop.proofs.Standings.{window-kept, whole-listing, listing-closed}
+use Rattle.listing_loop.proofs.Standings.{window-kept, handed-so-far, whole-listing, listing-closed}
 
 -- The reads and writes made.
 abbrev pub calls : History → ℕ
@@ -90,6 +92,7 @@ module _ (made : ℕ) (s r : Session) (window text lines : List ℕ) (taken : Bo
         history = after;
         stands = stands-after;
         stops = inl (ap isOver y ∙ over-stage taken (s .stage) (ap isListing (sym y) ∙ x), z);
+        begun = handed-so-far after r window text stands-after;
         whole = λ e. whole-listing after r window text stands-after e z;
         closed = λ e. listing-closed after r window text stands-after e;
       }
@@ -101,6 +104,7 @@ turns-over made s window text (h, st, x, e) l m =
       history = h;
       stands = st;
       stops = inr (omega (arith, e, l, m));
+      begun = handed-so-far h s window text st;
       whole = λ y. absurd (let o : _≡_ {A = ℕ} 0 1 = cc in omega arith);
       closed = λ y. absurd (let o : _≡_ {A = ℕ} 0 1 = cc in omega arith);
     }

@@ -14,11 +14,12 @@ use borrow.Author.Tests.{leb-true, leb-false, eq-eqb, ne-eqb}
 use Rattle.io.specs.Counts.{clamped}
 use Rattle.wire.specs.Buffer.{splice}
 use Rattle.wire.proofs.Splice.{length-splice}
-use Rattle.captures.specs.Listing.{Next, more, refused, following, closes, linesOf, listing}
-use Rattle.captures.specs.Steps.{greatest, Rest}
+use Rattle.captures.specs.Listing.{Next, more, refused, linesOf, listing}
+use Rattle.captures.specs.Steps.{Rest}
 use Rattle.captures.proofs.Followings.{more-is-short, more-may-come, closes-at}
 use Rattle.listing_loop.specs.History.{History, nothingYet, inOrder, capture, handed, ended, afterRead, afterWrite}
-use Rattle.listing_loop.specs.Standing.{Fits, Begins, Because, next, Stands, isListing, isFailed, isOver, stageWritten, Ran}
+use Rattle.listing_loop.specs.Stages.{isFailed, stageWritten}
+use Rattle.listing_loop.specs.Standing.{Begins, Because, next, Stands}
 use Rattle.listing_loop.specs.declared.session.Session.{Session}
 use Rattle.listing_loop.specs.declared.session.Stage.{Stage}
 use Rattle.listing_loop.specs.declared.session.Stage.the-variants.{Listing, Full, Reading, Listed, TooLong, Unreadable, Unwritable}
@@ -62,6 +63,51 @@ pub counted : (window : List ℕ) (held n m : ℕ) (got : ℤ) → m ≡ clamped
 counted window held n m got e g =
     let l : take (length window - held) (drop held window) ≡ drop held window = take-all (length window - held) (drop held window) (rw (length-drop held window) (omega arith)) in
     e ∙ (ap (λ (x : List ℕ). clamped got (length x)) l ∙ ap (λ (x : ℤ). clamped x (length (drop held window))) g)
+
+-- At every stage the text made so far is the start of the listing.
+begins-with : (x : Stage) (all made left : List ℕ) → Begins x all made left → (more : List ℕ) × (all ≡ made ++ more)
+begins-with Listing all made left b = (left, b)
+begins-with Full all made left b = (left, b)
+begins-with Reading all made left b = (left, b)
+begins-with Listed all made left b = ([], b ∙ sym (append-nil made))
+begins-with TooLong all made left b = (left, b)
+begins-with Unreadable all made left b = (left, b)
+begins-with Unwritable all made left b = b
+
+-- What a write leaves of a stage.
+begins-then : (taken : Bool) (x : Stage) (all made left : List ℕ) → Begins x all made left → Begins (stageWritten taken x) all made left
+begins-then false x all made left b = begins-with x all made left b
+begins-then true Listing all made left b = b
+begins-then true Full all made left b = b
+begins-then true Reading all made left b = b
+begins-then true Listed all made left b = b
+begins-then true TooLong all made left b = b
+begins-then true Unreadable all made left b = b
+begins-then true Unwritable all made left b = b
+
+because-then : (taken : Bool) (x : Stage) (n : Next) (len waiting offset frames : ℕ) → Because x n len waiting offset frames → Because (stageWritten taken x) n len 0 offset frames
+because-then false x n len waiting offset frames b = tt
+because-then true Listing n len waiting offset frames b = tt
+because-then true Full n len waiting offset frames b = tt
+because-then true Reading n len waiting offset frames b = tt
+because-then true Listed n len waiting offset frames b = b
+because-then true TooLong n len waiting offset frames b = b
+because-then true Unreadable n len waiting offset frames b = b
+because-then true Unwritable n len waiting offset frames b = tt
+
+fails-then : (taken : Bool) (x : Stage) → isFailed (stageWritten taken x) ≡ cond taken (isFailed x) true
+fails-then false x = refl
+fails-then true Listing = refl
+fails-then true Full = refl
+fails-then true Reading = refl
+fails-then true Listed = refl
+fails-then true TooLong = refl
+fails-then true Unreadable = refl
+fails-then true Unwritable = refl
+
+none-left : (ended : Bool) → Rest ended []
+none-left true = refl
+none-left false = tt
 
 module _ (h : History) (s : Session) (window text : List ℕ) (st : Stands h s window text) where
   -- A window that changes past the bytes that are held.
@@ -176,70 +222,25 @@ module _ (h : History) (s : Session) (window text : List ℕ) (st : Stands h s w
     read-stands got n m z e = rw z (gave-stands n m e)
 
   -- A write of the text that waits, which took it or failed.
-  module _ (taken : Bool) where
-    begins-then : (x : Stage) (all made left : List ℕ) → Begins x all made left → Begins (stageWritten taken x) all made left
-    begins-then = by taken
-      where
-        by : (taken : Bool) (x : Stage) (all made left : List ℕ) → Begins x all made left → Begins (stageWritten taken x) all made left
-        by true Listing all made left b = b
-        by true Full all made left b = b
-        by true Reading all made left b = b
-        by true Listed all made left b = b
-        by true TooLong all made left b = b
-        by true Unreadable all made left b = b
-        by true Unwritable all made left b = b
-        by false Listing all made left b = (left, b)
-        by false Full all made left b = (left, b)
-        by false Reading all made left b = (left, b)
-        by false Listed all made left b = ([], b ∙ sym (append-nil made))
-        by false TooLong all made left b = (left, b)
-        by false Unreadable all made left b = (left, b)
-        by false Unwritable all made left b = b
+  pub write-stands : (taken : Bool) (lines : List ℕ) (x : Stage) → lines ≡ take (s .waiting) text → x ≡ stageWritten taken (s .stage) → Stands (afterWrite taken lines h) (record { from = s .from; held = s .held; offset = s .offset; frames = s .frames; waiting = 0; ended = s .ended; stage = x }) window text
+  unfolding inOrder
+  write-stands taken lines x e z =
+      rw z
+      (record {
+        fits = record { order = st .fits .order; inside = st .fits .inside; room = omega arith };
+        ends = st .ends;
+        fails = fails-then taken (s .stage) ∙ ap (λ (f : Bool). cond taken f true) (st .fails);
+        within = st .within;
+        unlisted = st .unlisted;
+        lines = λ rest r. rw (append-nil, e) (begins-then taken (s .stage) _ _ _ (st .lines rest r));
+        because = because-then taken (s .stage) _ _ (s .waiting) _ _ (st .because);
+      })
 
-    because-then : (x : Stage) (n : Next) (len waiting offset frames : ℕ) → Because x n len waiting offset frames → Because (stageWritten taken x) n len 0 offset frames
-    because-then = by taken
-      where
-        by : (taken : Bool) (x : Stage) (n : Next) (len waiting offset frames : ℕ) → Because x n len waiting offset frames → Because (stageWritten taken x) n len 0 offset frames
-        by true Listing n len waiting offset frames b = tt
-        by true Full n len waiting offset frames b = tt
-        by true Reading n len waiting offset frames b = tt
-        by true Listed n len waiting offset frames b = b
-        by true TooLong n len waiting offset frames b = b
-        by true Unreadable n len waiting offset frames b = b
-        by true Unwritable n len waiting offset frames b = tt
-        by false x n len waiting offset frames b = tt
-
-    fails-then : (x : Stage) → isFailed (stageWritten taken x) ≡ cond taken (isFailed x) true
-    fails-then = by taken
-      where
-        by : (taken : Bool) (x : Stage) → isFailed (stageWritten taken x) ≡ cond taken (isFailed x) true
-        by true Listing = refl
-        by true Full = refl
-        by true Reading = refl
-        by true Listed = refl
-        by true TooLong = refl
-        by true Unreadable = refl
-        by true Unwritable = refl
-        by false x = refl
-
-    pub write-stands : (lines : List ℕ) (x : Stage) → lines ≡ take (s .waiting) text → x ≡ stageWritten taken (s .stage) → Stands (afterWrite taken lines h) (record { from = s .from; held = s .held; offset = s .offset; frames = s .frames; waiting = 0; ended = s .ended; stage = x }) window text
-    unfolding inOrder
-    write-stands lines x e z =
-        rw z
-        (record {
-          fits = record { order = st .fits .order; inside = st .fits .inside; room = omega arith };
-          ends = st .ends;
-          fails = fails-then (s .stage) ∙ ap (λ (f : Bool). cond taken f true) (st .fails);
-          within = st .within;
-          unlisted = st .unlisted;
-          lines = λ rest r. rw (append-nil, e) (begins-then (s .stage) _ _ _ (st .lines rest r));
-          because = because-then (s .stage) _ _ (s .waiting) _ _ (st .because);
-        })
-
-  -- The end.
-  none-left : (ended : Bool) → Rest ended []
-  none-left true = refl
-  none-left false = tt
+  -- What was handed to the output is the start of the listing.
+  pub handed-so-far : (rest : List ℕ) → Rest (s .ended) rest → (left : List ℕ) × (listing (capture h ++ rest) ≡ handed h ++ left)
+  handed-so-far rest r =
+      let b = begins-with (s .stage) _ _ _ (st .lines rest r) in
+      (take (s .waiting) text ++ b .0, b .1 ∙ append-assoc (handed h) (take (s .waiting) text) (b .0))
 
   pub whole-listing : s .stage ≡ Listed → s .waiting ≡ 0 → handed h ≡ listing (capture h)
   whole-listing x z =

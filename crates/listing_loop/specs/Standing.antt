@@ -1,17 +1,14 @@
 -- Where a listing stands after any number of reads and writes (01 "The listing program").
 use mathlib.Core.Path.{_≡_}
-use mathlib.Core.Bool.{Bool, true, false, cond}
-use mathlib.Core.List.{List, [], _∷_, _++_}
-use mathlib.Core.Logic.{_⊎_}
+use mathlib.Core.Bool.{true}
+use mathlib.Core.List.{List, _++_}
 use Prim.Native.Nat.{ℕ, _+_, _≤_, _<_}
-use lib.IntN.{ℤ, pos, negsuc}
 use lib.ListN.{length, take, drop}
 use lib.Seq.{slice}
-use Rattle.captures.specs.Listing.{Next, framed, refused, more, following, closes, linesOf, listing}
-use Rattle.captures.specs.Steps.{greatest, tooLong, Rest}
-use Rattle.captures.specs.declared.listing.State.{State}
-use Rattle.captures.specs.declared.listing.State.the-variants.{Going, More, Done, TooLong as Long}
+use Rattle.captures.specs.Listing.{Next, framed, more, following, closes, linesOf, listing}
+use Rattle.captures.specs.Steps.{tooLong, Rest}
 use Rattle.listing_loop.specs.History.{History, capture, handed, ended}
+use Rattle.listing_loop.specs.Stages.{isFailed}
 use Rattle.listing_loop.specs.declared.session.Session.{Session}
 use Rattle.listing_loop.specs.declared.session.Stage.{Stage}
 use Rattle.listing_loop.specs.declared.session.Stage.the-variants.{Listing, Full, Reading, Listed, TooLong, Unreadable, Unwritable}
@@ -48,35 +45,6 @@ Because TooLong n len waiting offset frames = (total : ℕ) × (key : ℕ) × (v
 Because Unreadable n len waiting offset frames = n ≡ more
 Because Unwritable n len waiting offset frames = Unit
 
-abbrev pub isListing : Stage → Bool
-isListing Listing = true
-isListing Full = false
-isListing Reading = false
-isListing Listed = false
-isListing TooLong = false
-isListing Unreadable = false
-isListing Unwritable = false
-
--- A read or a write failed.
-abbrev pub isFailed : Stage → Bool
-isFailed Listing = false
-isFailed Full = false
-isFailed Reading = false
-isFailed Listed = false
-isFailed TooLong = false
-isFailed Unreadable = true
-isFailed Unwritable = true
-
--- The listing does not go on.
-abbrev pub isOver : Stage → Bool
-isOver Listing = false
-isOver Full = false
-isOver Reading = false
-isOver Listed = true
-isOver TooLong = true
-isOver Unreadable = true
-isOver Unwritable = true
-
 -- A session stands where a history has led to, with this window and this text.
 pub record Stands (h : History) (s : Session) (window text : List ℕ) : Type 0 where
   pub fits : Fits s window text
@@ -89,30 +57,3 @@ pub record Stands (h : History) (s : Session) (window text : List ℕ) : Type 0 
   -- The text handed to the output and the text that waits are the listing so far, whatever will be read.
   pub lines : (rest : List ℕ) → Rest (s .ended) rest → Begins (s .stage) (listing (capture h ++ rest)) (handed h ++ take (s .waiting) text) (linesOf (drop (s .offset) (capture h ++ rest)) (s .offset) (s .frames))
   pub because : Because (s .stage) (next h s) (length text) (s .waiting) (s .offset) (s .frames)
-
--- The stage after the window was listed, as far as it went.
-abbrev pub stageListed : State → Stage
-stageListed Going = Full
-stageListed More = Reading
-stageListed Done = Listed
-stageListed Long = TooLong
-
--- The stage after a read that answered so.
-abbrev pub stageRead : ℤ → Stage
-stageRead (pos n) = Listing
-stageRead (negsuc n) = Unreadable
-
--- The stage after a write that took its text, or failed: the listing goes on unless it is over.
-abbrev pub stageWritten : Bool → Stage → Stage
-stageWritten taken s = cond taken (cond (isOver s) s Listing) Unwritable
-
--- A whole run.
-pub record Ran (r : Session) (window text : List ℕ) : Type 0 where
-  pub history : History
-  pub stands : Stands history r window text
-  -- It is over and no text waits, or as many reads and writes were made as are counted.
-  pub stops : ((isOver (r .stage) ≡ true) × (r .waiting ≡ 0)) ⊎ (length (history .reads) + length (history .writes) ≡ greatest)
-  -- Once it is listed, the text handed to the output is the listing of what was read;
-  pub whole : r .stage ≡ Listed → handed history ≡ listing (capture history)
-  -- and then the last read gave nothing, or a frame is refused.
-  pub closed : r .stage ≡ Listed → ((earlier : List (List ℕ)) × (history .reads ≡ [] ∷ earlier)) ⊎ ((number : ℕ) × (next history r ≡ refused number))

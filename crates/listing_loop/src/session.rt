@@ -1,11 +1,13 @@
 // The capture listed, a read at a time (01 "The listing program").
-ghost use mathlib.Core.Bool.{Bool, true, false};
+ghost use mathlib.Core.Bool.{false};
 ghost use mathlib.Core.List.{List};
 ghost use mathlib.Core.Path.{_≡_};
 ghost use Prim.Native.Nat.{ℕ, _+_, _≤_, _<_};
 ghost use lib.ListN.{length, take, drop};
 ghost use Rattle.listing_loop.specs.History.{History, nothingYet, afterRead, afterWrite};
-ghost use Rattle.listing_loop.specs.Standing.{Fits, Stands, isListing, isOver, stageListed, stageRead, stageWritten, Ran};
+ghost use Rattle.listing_loop.specs.Run.{Ran};
+ghost use Rattle.listing_loop.specs.Stages.{isListing, isOver, stageListed, stageRead, stageWritten};
+ghost use Rattle.listing_loop.specs.Standing.{Fits, Stands};
 ghost use Rattle.listing_loop.specs.declared.session.Stage.the-variants.{Listing, Reading};
 use captures::Progress;
 use captures::State;
@@ -74,11 +76,11 @@ fn turns(window: &mut [u8], text: &mut [u8]) -> Session
             let got = libc::read(STDIN_FILENO, &mut window[held..]);
             at = received(window, at, got);
         }
-        if !lists(at) {
+        if !is_listing(at) {
             let lines = waiting(text, at);
             let taken = io::write_all(STDOUT_FILENO, lines);
             at = wrote(lines, at, taken);
-            if !lists(at) {
+            if !is_listing(at) {
                 return at;
             }
         }
@@ -102,7 +104,7 @@ fn started() -> Session
     }
 }
 
-fn lists(at: Session) -> bool
+fn is_listing(at: Session) -> bool
     ensures { λ r. ⌜ r ≡ isListing (at .stage) ⌝ }
 {
     let stage = at.stage;
@@ -251,13 +253,13 @@ fn stage_written(taken: bool, stage: Stage) -> Stage
     if !taken {
         return Stage::Unwritable;
     }
-    if over(stage) {
+    if is_over(stage) {
         return stage;
     }
     Stage::Listing
 }
 
-fn over(stage: Stage) -> bool
+fn is_over(stage: Stage) -> bool
     ensures { λ r. ⌜ r ≡ isOver stage ⌝ }
 {
     match stage {

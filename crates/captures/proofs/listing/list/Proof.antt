@@ -1,5 +1,4 @@
 -- Each turn is a step that goes on behind the last.
-use native.Mathlib.Omega.{arith}
 use Prim.Native.Nat.{_-_}
 use lib.ListN.{length}
 use borrow.Author.Tests.{not-true, not-false}

@@ -3,7 +3,7 @@ use mathlib.Core.Path.{sym, ap}
 use borrow.Author.Needs.{needs}
 use mir.Syntax.{w64}
 use Rattle.wire.proofs.Casts.{below, not-below}
-use Rattle.listing_loop.specs.Standing.{stageRead}
+use Rattle.listing_loop.specs.Stages.{stageRead}
 use Rattle.listing_loop.proofs.Standings.{counted, unreadable-stands, read-stands}
 use Rattle.listing_loop.proofs.session.received.Statement.{statement}
 use Rattle.listing_loop.proofs.session.received.Tie as tie

@@ -11,5 +11,5 @@ stage-written-spec =
     (tie.spec
     (λ c. rw (not-true (c .before .args .taken) (c .if1 .taken)))
     (λ c κs. search needs)
-    (λ c. rw (not-false (c .before .before .before .args .taken) (c .before .before .if1 .left), sym (c .before .over .ensures) ∙ c .if2 .taken))
-    (λ c. rw (not-false (c .before .before .before .args .taken) (c .before .before .if1 .left), sym (c .before .over .ensures) ∙ c .if2 .left)))
+    (λ c. rw (not-false (c .before .before .before .args .taken) (c .before .before .if1 .left), sym (c .before .is-over .ensures) ∙ c .if2 .taken))
+    (λ c. rw (not-false (c .before .before .before .args .taken) (c .before .before .if1 .left), sym (c .before .is-over .ensures) ∙ c .if2 .left)))

@@ -1,8 +1,7 @@
 -- Each turn leaves a session that stands where the reads and writes so far have led to.
 use mathlib.Core.Path.{_≡_, refl, sym, _∙_, ap}
 use mathlib.Core.Logic.{⊎-elim}
-use mathlib.Core.List.{List}
-use Prim.Native.Nat.{ℕ, _-_, _<_, _≤_}
+use Prim.Native.Nat.{_-_, _<_, _≤_}
 use native.Mathlib.Omega.{arith}
 use lib.ListN.{length}
 use mir.Syntax.{w64}
@@ -12,7 +11,6 @@ use borrow.Author.Tests.{not-true, not-false}
 use Rattle.captures.specs.Steps.{greatest}
 use Rattle.listing_loop.specs.History.{nothingYet}
 use Rattle.listing_loop.specs.Standing.{Stands}
-use Rattle.listing_loop.specs.declared.session.Session.{Session}
 use Rattle.listing_loop.proofs.Standings.{held-short}
 use Rattle.listing_loop.proofs.Runs.{Before, Within, nothing-read, read-then, read-again, write-again, write-over, turns-over}
 use Rattle.listing_loop.proofs.session.turns.Statement.{statement}
@@ -88,8 +86,8 @@ turns-spec =
     (λ c.
     let wrote = c .before .before .wrote in
     let at = c .before .before .before .before .before .before .before .before in
-    let due = sym (c .before .before .before .before .before .before .before .lists .ensures) ∙ not-true _ (c .before .before .before .before .before .before .if1 .taken) in
-    let over = sym (c .before .lists2 .ensures) ∙ not-true _ (c .if2 .taken) in
+    let due = sym (c .before .before .before .before .before .before .before .is-listing .ensures) ∙ not-true _ (c .before .before .before .before .before .before .if1 .taken) in
+    let over = sym (c .before .is-listing2 .ensures) ∙ not-true _ (c .if2 .taken) in
     write-over _ _ _ _ _ _ (c .before .before .before .write-all .result) (joined at) due (c .before .before .before .before .waiting .ensures) (wrote .ensures .1 .1) (wrote .ensures .0) (wrote .ensures .1 .0) over)
     (λ c. search needs)
     (λ c. omega arith)
@@ -97,10 +95,10 @@ turns-spec =
     let at = c .before .before in (
       ⊎-elim
           (λ w.
-          let due = sym (c .before .lists .ensures) ∙ not-true _ (w .0 .taken) in
+          let due = sym (c .before .is-listing .ensures) ∙ not-true _ (w .0 .taken) in
           let on = sym (w .5 .ensures) ∙ not-false _ (w .6 .left) in
           write-again _ _ _ _ _ _ (w .3 .result) (joined at) due (w .2 .ensures) (w .4 .ensures .1 .1) _ on (w .7))
-          (λ w. let on = sym (c .before .lists .ensures) ∙ not-false _ (w .0 .left) in read-again _ _ _ _ _ (joined at) on (w .1))
+          (λ w. let on = sym (c .before .is-listing .ensures) ∙ not-false _ (w .0 .left) in read-again _ _ _ _ _ (joined at) on (w .1))
           (c .if1 .came),
       joined-length at,
       c .before .before .before .before .text .given ∙ c .before .before .before .before .before .before .before .before .before .loop .inv .2,
