@@ -38,6 +38,9 @@ start-stands window text =
       because = tt;
     }
 
+pub part-length : (n : ℕ) (text : List ℕ) → n ≤ length text → n ≡ length (take n text)
+part-length n text h = sym (length-take-le n text h)
+
 -- The part of a window that is lent is the part between two places.
 pub part-between : (w : List ℕ) (from held : ℕ) → from ≤ held → held ≤ length w → take (held - from) (drop from w) ≡ slice from held w
 part-between w from held o h =
@@ -185,8 +188,8 @@ module _ (h : History) (s : Session) (window text : List ℕ) (st : Stands h s w
       abbrev part : List ℕ
       part = drop (s .held) window
 
-      part-length : length part ≡ length window - s .held
-      part-length = length-drop (s .held) window
+      free-length : length part ≡ length window - s .held
+      free-length = length-drop (s .held) window
 
       all-given : take m part ≡ take n part
       all-given = by (leb n (length part)) refl
@@ -209,7 +212,7 @@ module _ (h : History) (s : Session) (window text : List ℕ) (st : Stands h s w
       unfolding inOrder
       gave-stands =
           record {
-            fits = record { order = omega (arith, st .fits .order); inside = omega (arith, e, part-length, st .fits .inside); room = st .fits .room };
+            fits = record { order = omega (arith, st .fits .order); inside = omega (arith, e, free-length, st .fits .inside); room = st .fits .room };
             ends = ended-by (take n part) (h .reads) m (e ∙ sym (length-take n part));
             fails = sym not-failed;
             within = rw (length-append (capture h) (take n part)) (omega (arith, st .within));

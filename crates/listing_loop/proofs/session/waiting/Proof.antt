@@ -1,7 +1,6 @@
 -- The text that waits is a part of the buffer.
-use mathlib.Core.Path.{sym}
-use lib.Seq.{length-take-le}
 use borrow.Author.Needs.{needs}
+use Rattle.listing_loop.proofs.Standings.{part-length}
 use Rattle.listing_loop.proofs.session.waiting.Statement.{statement}
 use Rattle.listing_loop.proofs.session.waiting.Tie as tie
 
@@ -9,5 +8,5 @@ pub waiting-spec : {M : Type 1} → statement M
 waiting-spec =
     tie.close
     (tie.spec
-    (λ c. sym (length-take-le (c .before .args .at .waiting) (c .before .args .text .now) (c .before .pre)))
+    (λ c. part-length _ (c .before .args .text .now) (search needs))
     (λ c. search needs))
