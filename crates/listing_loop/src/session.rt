@@ -50,17 +50,18 @@ pub struct Session {
     pub stage: Stage,
 }
 
-// Lists standard input on standard output, up to the first refusal or the end.
+// Lists standard input on standard output, up to the first refusal or the input's end. The window holds four of the longest
+// frames.
 pub fn run(window: &mut [u8; 262144], text: &mut [u8; 65536]) -> Session
     ensures { λ r. ⌜ Ran r (now (window .exit)) (now (text .exit)) ⌝ }
 {
     turns(window, text)
 }
 
-// One read a turn, or one write. A single read keeps the writer of a pipe busy, which a window that is filled first does
-// not. The text is written once it has no room for another line, or the listing ends.
-// A proved loop has to end, and nothing says that an input does. So the turns are counted, up to a number that no run gets
-// to.
+// A turn lists what is there, and then makes one read, or one write. A single read keeps the writer of a pipe busy, which a
+// window that is filled first does not. The text is written once it has no room for another line, or the listing is over.
+// A proved loop has to end, and nothing says that an input does. So the turns made are counted, up to a number that no run
+// gets to.
 fn turns(window: &mut [u8], text: &mut [u8]) -> Session
     requires { ⌜ 65536 ≤ length (now window) ⌝ }
     ensures { λ r. ⌜ Ran r (now (window .exit)) (now (text .exit)) ⌝ }
@@ -89,6 +90,7 @@ fn turns(window: &mut [u8], text: &mut [u8]) -> Session
     at
 }
 
+// Nothing is read yet.
 fn started() -> Session
     ensures { λ r. ⌜ r .stage ≡ Listing ⌝ }
     ensures { λ r. ⌜ ((window text : List ℕ) → Stands nothingYet r window text) ⌝ }
@@ -101,21 +103,6 @@ fn started() -> Session
         waiting: 0,
         ended: false,
         stage: Stage::Listing,
-    }
-}
-
-fn is_listing(at: Session) -> bool
-    ensures { λ r. ⌜ r ≡ isListing (at .stage) ⌝ }
-{
-    let stage = at.stage;
-    match stage {
-        Stage::Listing => true,
-        Stage::Full => false,
-        Stage::Reading => false,
-        Stage::Listed => false,
-        Stage::TooLong => false,
-        Stage::Unreadable => false,
-        Stage::Unwritable => false,
     }
 }
 
@@ -161,7 +148,7 @@ fn stage_listed(state: State) -> Stage
     }
 }
 
-// Where there may be too little room after what the window holds, what is not listed yet is moved to the front.
+// Where the longest frame has no room after what the window holds, what is not listed yet is moved to the front.
 fn make_room(window: &mut [u8], at: Session) -> Session
     requires { ⌜ at .from ≤ at .held ⌝ }
     requires { ⌜ at .held ≤ length (now window) ⌝ }
@@ -257,6 +244,21 @@ fn stage_written(taken: bool, stage: Stage) -> Stage
         return stage;
     }
     Stage::Listing
+}
+
+fn is_listing(at: Session) -> bool
+    ensures { λ r. ⌜ r ≡ isListing (at .stage) ⌝ }
+{
+    let stage = at.stage;
+    match stage {
+        Stage::Listing => true,
+        Stage::Full => false,
+        Stage::Reading => false,
+        Stage::Listed => false,
+        Stage::TooLong => false,
+        Stage::Unreadable => false,
+        Stage::Unwritable => false,
+    }
 }
 
 fn is_over(stage: Stage) -> bool

@@ -40,9 +40,13 @@ joined c =
     (λ w.
     let listed = c .before .before .before in
     let inv = listed .before .before .before .before .loop .inv .0 in
-    let st = w .3 .ensures .0 _ _ (listed-then listed) in
-    let reading = w .3 .ensures .1 .0 ∙ w .1 .given .1 in
-    read-then _ _ _ _ _ _ _ _ _ _ (toZ w64 (ofZ w64 (w .7 .result))) st reading (inv .3) refl (w .8 .given .1) (w .11 .ensures .0) (w .11 .ensures .1) (w .13) (w .12))
+    let told = w .1 in
+    let room = w .3 in
+    let read = w .7 in
+    let back = w .8 in
+    let received = w .11 in
+    let reading = room .ensures .1 .0 ∙ told .given .1 in
+    read-then _ _ _ _ _ _ _ _ _ _ (toZ w64 (ofZ w64 (read .result))) (room .ensures .0 _ _ (listed-then listed)) reading (inv .3) refl (back .given .1) (received .ensures .0) (received .ensures .1) (w .13) (w .12))
     (λ w.
     let listed = c .before .before .before in
     let inv = listed .before .before .before .before .loop .inv .0 in
@@ -52,7 +56,10 @@ joined c =
 joined-length : (c : tie.At-match-came Inv-loop μ-loop) → length (c .match .window) ≡ length (c .before .before .before .before .before .before .before .before .before .before .before .args .window .now)
 joined-length c =
     ⊎-elim
-    (λ w. ap length (w .12) ∙ (w .8 .given .1 ∙ (w .4 .given ∙ c .before .before .before .before .before .before .before .loop .inv .1)))
+    (λ w.
+    let room-back = w .4 in
+    let back = w .8 in
+    ap length (w .12) ∙ (back .given .1 ∙ (room-back .given ∙ c .before .before .before .before .before .before .before .loop .inv .1)))
     (λ w. ap length (w .1) ∙ c .before .before .before .before .before .before .before .loop .inv .1)
     (c .match .came)
 
@@ -95,9 +102,12 @@ turns-spec =
     let at = c .before .before in (
       ⊎-elim
           (λ w.
+          let waiting = w .2 in
+          let write = w .3 in
+          let wrote = w .4 in
           let due = sym (c .before .is-listing .ensures) ∙ not-true _ (w .0 .taken) in
           let on = sym (w .5 .ensures) ∙ not-false _ (w .6 .left) in
-          write-again _ _ _ _ _ _ (w .3 .result) (joined at) due (w .2 .ensures) (w .4 .ensures .1 .1) _ on (w .7))
+          write-again _ _ _ _ _ _ (write .result) (joined at) due (waiting .ensures) (wrote .ensures .1 .1) _ on (w .7))
           (λ w. let on = sym (c .before .is-listing .ensures) ∙ not-false _ (w .0 .left) in read-again _ _ _ _ _ (joined at) on (w .1))
           (c .if1 .came),
       joined-length at,
