@@ -27,8 +27,8 @@ unfoldable pub tooLong : ℕ → ℕ → ℕ → Bool
 tooLong offset frames total = cond (ltb greatest (offset + total)) true (ltb greatest (frames + 1))
 
 -- At the start of a window and of a text.
-abbrev pub begun : Progress → Progress
-begun p = record { from = 0; offset = p .offset; frames = p .frames; written = 0; state = Going }
+abbrev pub begun : ℕ → ℕ → Progress
+begun offset frames = record { from = 0; offset = offset; frames = frames; written = 0; state = Going }
 
 -- No further in the capture, with so much text.
 abbrev pub halted : Progress → ℕ → State → Progress

@@ -9,7 +9,6 @@ ghost use Rattle.listing_loop.specs.Run.{Ran};
 ghost use Rattle.listing_loop.specs.Stages.{isListing, isOver, stageListed, stageRead, stageWritten};
 ghost use Rattle.listing_loop.specs.Standing.{Fits, Stands};
 ghost use Rattle.listing_loop.specs.declared.session.Stage.the-variants.{Listing, Reading};
-use captures::Progress;
 use captures::State;
 use captures::list;
 use captures::to_front;
@@ -116,14 +115,15 @@ fn listed(window: &[u8], text: &mut [u8], at: Session) -> Session
     let held = at.held;
     let waiting = at.waiting;
     let ended = at.ended;
-    let start = Progress {
-        from: 0,
-        offset: at.offset,
-        frames: at.frames,
-        written: 0,
-        state: State::Going,
-    };
-    let p = list(&window[from..held], ended, start, &mut text[waiting..]);
+    let offset = at.offset;
+    let frames = at.frames;
+    let p = list(
+        &window[from..held],
+        ended,
+        offset,
+        frames,
+        &mut text[waiting..],
+    );
     let state = p.state;
     let stage = stage_listed(state);
     Session {
