@@ -1,6 +1,6 @@
 //! Compares the listing program with the reference's listing: on the captures, on every prefix of a small one, on
-//! captures that cross the borders of any buffer, and on captures with bytes altered, taken out or repeated. Then it tells
-//! the program stories of inputs and outputs that fail, or that come in pieces.
+//! captures that cross the borders of any buffer, and on captures with bytes altered, taken out or repeated. Then it runs
+//! the program on inputs and outputs that fail, and on inputs that come in pieces.
 //!
 //!     listing [PROGRAM] [--seed S]         PROGRAM is target/bin/listing unless given
 
@@ -45,7 +45,7 @@ fn main() -> ExitCode {
         check(&program, &samples, seed).and_then(|runs| Ok((runs, stories::check(&program, &samples)?)));
     match checked {
         Ok((runs, stories)) => {
-            println!("compared {runs} listings, 0 differences; {stories} stories as told");
+            println!("compared {runs} listings, 0 differences; {stories} stories passed");
             ExitCode::SUCCESS
         }
         Err(reason) => {

@@ -24,7 +24,7 @@ const MANY: usize = 20_000;
 const UNREADABLE: &str = "listing: standard input can't be read\n";
 const UNWRITABLE: &str = "listing: standard output can't be written\n";
 
-/// Gives the number of stories, or what went wrong in one that did not end as told.
+/// Gives the number of stories, or what went wrong in the first that failed.
 pub fn check(program: &Path, folder: &Path) -> Result<usize, String> {
     let stories = [
         ("the paper's example", example(program)),
@@ -35,8 +35,8 @@ pub fn check(program: &Path, folder: &Path) -> Result<usize, String> {
         ("no write succeeds, and there is more to list", full_output_before_the_end(program)),
         ("a capture comes in pieces", pieces(program, folder)),
     ];
-    for (name, ended) in &stories {
-        ended.as_ref().map_err(|reason| format!("story: {name}\n{reason}"))?;
+    for (name, result) in &stories {
+        result.as_ref().map_err(|reason| format!("story: {name}\n{reason}"))?;
     }
     Ok(stories.len())
 }
@@ -108,8 +108,8 @@ fn by_pieces(program: &Path, pieces: &[&[u8]]) -> Result<Written, String> {
     })
 }
 
-/// What is written for an input that gives these bytes, and whose next read fails: the other end of the socket is closed
-/// before all that was sent to it is read.
+/// What is written for an input that gives these bytes, and whose next read fails: the socket's other end is closed while
+/// there is something left to read in it.
 fn broken(program: &Path, bytes: &[u8]) -> Result<Written, String> {
     let (mut near, mut far) = UnixStream::pair().map_err(text)?;
     far.write_all(b"never read").map_err(text)?;
