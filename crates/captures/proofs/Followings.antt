@@ -13,7 +13,7 @@ use borrow.Author.Tests.{ltb-true, ltb-false}
 use Rattle.wire.proofs.Widths.{in-part}
 use Rattle.wire.specs.Integers.{bigEndian}
 use Rattle.protocol.specs.Decision.{Decision, layout, unlistedKey, unlistedVersion, decide}
-use Rattle.protocol.specs.Fields.{Field, Fields}
+use Rattle.protocol.specs.Fields.{Field}
 use Rattle.protocol.specs.Table.{rowOf}
 use Rattle.protocol.specs.declared.place.Place.{Place}
 use Rattle.rules.proofs.Gives.{choice}
@@ -25,7 +25,7 @@ use Rattle.frame_reading.specs.Answer.{told}
 use Rattle.frame_reading.specs.declared.reading.FrameRead.the-variants.{Frame}
 use Rattle.frame_reading.proofs.Told.{frame-told}
 use Rattle.captures.specs.Text.{joined}
-use Rattle.captures.specs.Listing.{limit, Next, framed, whole, cut, refused, more, nextOf, following, WindowTells, MoreIsShort, frameLine, linesFrom, lines, linesOf, LinesUnfold}
+use Rattle.captures.specs.Listing.{limit, Next, framed, whole, cut, refused, more, nextOf, following, closes, WindowTells, MoreIsShort, frameLine, linesFrom, lines, linesOf, LinesUnfold}
 use Rattle.rules.proofs.Beyond.{answer-stays}
 
 pub nothing-left : (s : List ℕ) (ended t : Bool) → length s ≡ 0 → ended ≡ t → cond t whole more ≡ following s ended
@@ -107,6 +107,30 @@ more-is-short (b ∷ s) ended e = by ended (readFrame (b ∷ s) limit) (short-fr
     by ended (frame f) h e = absurd (let o : _≡_ {A = ℕ} 0 1 = cc in omega arith)
     by ended (short n) h e = h
     by ended (refusal n p) h e = absurd (let o : _≡_ {A = ℕ} 0 1 = cc in omega arith)
+
+-- More bytes are needed only where more may come.
+pub more-may-come : (s : List ℕ) (ended : Bool) → following s ended ≡ more → ended ≡ false
+unfolding following
+more-may-come s false e = refl
+more-may-come [] true e = absurd (let o : _≡_ {A = ℕ} 0 1 = cc in omega arith)
+more-may-come (b ∷ s) true e = by (readFrame (b ∷ s) limit) e
+  where
+    by : (r : Reading) → nextOf r true (length (b ∷ s)) (frameLength (b ∷ s)) ≡ more → true ≡ false
+    by (frame f) e = absurd (let o : _≡_ {A = ℕ} 0 1 = cc in omega arith)
+    by (short n) e = absurd (let o : _≡_ {A = ℕ} 0 1 = cc in omega arith)
+    by (refusal n p) e = absurd (let o : _≡_ {A = ℕ} 0 1 = cc in omega arith)
+
+-- A listing closes at the capture's end or at a refusal.
+pub closes-at : (s : List ℕ) (ended : Bool) → closes (following s ended) ≡ true → (ended ≡ true) ⊎ ((number : ℕ) × (following s ended ≡ refused number))
+unfolding following
+closes-at s true c = inl refl
+closes-at [] false c = absurd (let o : _≡_ {A = ℕ} 0 1 = cc in omega arith)
+closes-at (b ∷ s) false c = by (readFrame (b ∷ s) limit) c
+  where
+    by : (r : Reading) → closes (nextOf r false (length (b ∷ s)) (frameLength (b ∷ s))) ≡ true → (false ≡ true) ⊎ ((number : ℕ) × (nextOf r false (length (b ∷ s)) (frameLength (b ∷ s)) ≡ refused number))
+    by (frame f) c = absurd (let o : _≡_ {A = ℕ} 0 1 = cc in omega arith)
+    by (short n) c = absurd (let o : _≡_ {A = ℕ} 0 1 = cc in omega arith)
+    by (refusal n p) c = inr (n, refl)
 
 -- A frame that comes next is there, and has bytes.
 abbrev There : List ℕ → Next → Type 0

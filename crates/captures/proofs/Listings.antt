@@ -2,7 +2,7 @@
 -- after another are one listing. Assumes nothing.
 use mathlib.Core.Path.{_≡_, refl, sym, _∙_, ap, subst}
 use mathlib.Core.Bool.{Bool, true, false, cond}
-use mathlib.Core.List.{List, [], _∷_, _++_, append-assoc, append-nil}
+use mathlib.Core.List.{List, [], _++_, append-assoc, append-nil}
 use mathlib.Core.Logic.{_⊎_, inl, inr}
 use Prim.Native.Nat.{ℕ, suc, _+_, _-_, _<_, _≤_}
 use native.Mathlib.Numerals.{add-one}
@@ -10,11 +10,11 @@ use native.Mathlib.Omega.{arith}
 use lib.Dec.{ltb, leb, eqb}
 use lib.ListN.{length, take, drop, length-append, length-drop}
 use lib.Seq.{take-all, drop-append-le, drop-drop}
-use borrow.Author.Tests.{lt-ltb, le-ltb, ltb-true, ltb-false, le-leb, lt-leb, leb-true, leb-false, eqb-true, eqb-false}
+use borrow.Author.Tests.{lt-ltb, le-ltb, ltb-false, le-leb, lt-leb, leb-true, leb-false, eqb-true, eqb-false}
 use Rattle.wire.specs.Buffer.{Holds, holds, splice}
 use Rattle.wire.proofs.Splice.{splice-none, splice-splice, length-splice}
 use Rattle.captures.specs.Text.{ascii, decimal, joined, puts}
-use Rattle.captures.specs.Listing.{Next, framed, whole, cut, refused, more, following, frameLine, cutLine, refusedLine, closingLine, linesFrom, linesOf}
+use Rattle.captures.specs.Listing.{Next, framed, whole, cut, refused, more, following, closes, frameLine, cutLine, refusedLine, closingLine, linesFrom, linesOf}
 use Rattle.captures.specs.Steps.{goesOn, greatest, tooLong, begun, halted, advanced, printed, moved, Steps, Rest, behind, Lists, Stopped, Stops}
 use Rattle.captures.specs.declared.listing.Progress.{Progress}
 use Rattle.captures.specs.declared.listing.State.{State}
@@ -90,14 +90,14 @@ module _ (w : List ℕ) (ended : Bool) (p : Progress) (inside : p .from ≤ leng
 
   -- Where a step leads.
   abbrev Leads : List ℕ → Progress → Type 0
-  Leads text r = (r .from ≤ length w) × ((rest : List ℕ) → Rest ended rest → linesOf (drop (p .from) (w ++ rest)) (p .offset) (p .frames) ≡ text ++ behind (r .state) (linesOf (drop (r .from) (w ++ rest)) (r .offset) (r .frames)))
+  Leads text r = (r .from ≤ length w) × (r .offset + p .from ≡ p .offset + r .from) × ((rest : List ℕ) → Rest ended rest → linesOf (drop (p .from) (w ++ rest)) (p .offset) (p .frames) ≡ text ++ behind (r .state) (linesOf (drop (r .from) (w ++ rest)) (r .offset) (r .frames)))
 
   stays-there : (at : ℕ) (s : State) (ps : List (List ℕ)) → ps ≡ [] → ((l : List ℕ) → behind s l ≡ l) → Leads (joined ps) (halted p at s)
   unfolding joined
-  stays-there at s ps e b = (inside, λ rest r. rw (e, b (linesOf (drop (p .from) (w ++ rest)) (p .offset) (p .frames))))
+  stays-there at s ps e b = (inside, refl, λ rest r. rw (e, b (linesOf (drop (p .from) (w ++ rest)) (p .offset) (p .frames))))
 
-  closes : (n : Next) (at : ℕ) → following (drop (p .from) w) ended ≡ n → (n ≡ more → ⊥) → ((f : ℕ → List ℕ) → linesFrom n (p .offset) (p .frames) f ≡ joined (printed n p)) → Leads (joined (printed n p)) (halted p at Done)
-  closes n at e d g = (inside, λ rest r. lines-next n e d rest r ∙ (g _ ∙ sym (append-nil (joined (printed n p)))))
+  closing : (n : Next) (at : ℕ) → following (drop (p .from) w) ended ≡ n → (n ≡ more → ⊥) → ((f : ℕ → List ℕ) → linesFrom n (p .offset) (p .frames) f ≡ joined (printed n p)) → Leads (joined (printed n p)) (halted p at Done)
+  closing n at e d g = (inside, refl, λ rest r. lines-next n e d rest r ∙ (g _ ∙ sym (append-nil (joined (printed n p)))))
 
   leads : (n : Next) (at : ℕ) → following (drop (p .from) w) ended ≡ n → Leads (joined (printed n p)) (moved n p at)
   leads (framed total key version) at e = by (tooLong (p .offset) (p .frames) total)
@@ -112,13 +112,14 @@ module _ (w : List ℕ) (ended : Bool) (p : Progress) (inside : p .from ≤ leng
       by true = stays-there at TooLong [] refl (λ l. refl)
       by false = (
         let l = length-drop (p .from) w in omega (arith, there .1, l, inside),
+        omega arith,
         λ rest r. lines-next (framed total key version) e (λ z. absurd (let o : _≡_ {A = ℕ} 0 1 = cc in omega arith)) rest r
             ∙ ap (λ (s : List ℕ). joined (frameLine (p .offset) total key version) ++ linesOf s (p .offset + total) (suc (p .frames))) (on rest)
             ∙ ap (λ (k : ℕ). joined (frameLine (p .offset) total key version) ++ linesOf (drop (p .from + total) (w ++ rest)) (p .offset + total) k) (sym (add-one (p .frames))),
       )
-  leads whole at e = closes whole at e (λ z. absurd (let o : _≡_ {A = ℕ} 0 1 = cc in omega arith)) (λ f. refl)
-  leads (cut left needed) at e = closes (cut left needed) at e (λ z. absurd (let o : _≡_ {A = ℕ} 0 1 = cc in omega arith)) (λ f. sym (joined-append (cutLine (p .offset) left needed) (closingLine (p .frames) (ascii " cut\n"))))
-  leads (refused number) at e = closes (refused number) at e (λ z. absurd (let o : _≡_ {A = ℕ} 0 1 = cc in omega arith)) (λ f. sym (joined-append (refusedLine (p .offset) number) (closingLine (p .frames) (ascii " refused\n"))))
+  leads whole at e = closing whole at e (λ z. absurd (let o : _≡_ {A = ℕ} 0 1 = cc in omega arith)) (λ f. refl)
+  leads (cut left needed) at e = closing (cut left needed) at e (λ z. absurd (let o : _≡_ {A = ℕ} 0 1 = cc in omega arith)) (λ f. sym (joined-append (cutLine (p .offset) left needed) (closingLine (p .frames) (ascii " cut\n"))))
+  leads (refused number) at e = closing (refused number) at e (λ z. absurd (let o : _≡_ {A = ℕ} 0 1 = cc in omega arith)) (λ f. sym (joined-append (refusedLine (p .offset) number) (closingLine (p .frames) (ascii " refused\n"))))
   leads more at e = stays-there at More [] refl (λ l. refl)
 
   module _ (entry exit : List ℕ) (r : Progress) (n : Next) (e : following (drop (p .from) w) ended ≡ n) (s : Steps n p entry exit r) where
@@ -129,7 +130,7 @@ module _ (w : List ℕ) (ended : Bool) (p : Progress) (inside : p .from ≤ leng
         let h : holds exit (r .written) ≡ holds (splice entry (p .written) (joined (printed n p))) (p .written + length (joined (printed n p))) = s .text ∙ puts-fit entry (p .written) (printed n p) fits in
         let l : Leads (joined (printed n p)) r = subst (Leads (joined (printed n p))) (sym (s .place)) (leads n (r .written) e) in
         let at : r .written ≡ p .written + length (joined (printed n p)) = ap (λ (x : Holds). x .next) h in
-        record { text = joined (printed n p); put = ap (λ (x : Holds). x .bytes) h; written = at; room = rw at fits; within = l .0; lines = l .1 }
+        record { text = joined (printed n p); put = ap (λ (x : Holds). x .bytes) h; written = at; room = rw at fits; within = l .0; place = l .1; lines = l .2 }
 
     -- A step that can be followed by another has gone on.
     pub step-goes : goesOn (r .state) ≡ true → (r .state ≡ Going) × (p .from < r .from)
@@ -165,9 +166,9 @@ module _ (w : List ℕ) (ended : Bool) (p : Progress) (inside : p .from ≤ leng
             by : (t : Bool) → tooLong (p .offset) (p .frames) total ≡ t → goesOn ((cond t (halted p (r .written) TooLong) (advanced p total (r .written))) .state) ≡ false → Stops w ended len (cond t (halted p (r .written) TooLong) (advanced p total (r .written)))
             by true q g = (total, key, version, e, q)
             by false q g = absurd (let o : _≡_ {A = ℕ} 0 1 = cc in omega arith)
-        of whole e g = tt
-        of (cut left needed) e g = tt
-        of (refused number) e g = tt
+        of whole e g = ap closes e
+        of (cut left needed) e g = ap closes e
+        of (refused number) e g = ap closes e
         of more e g = e
 
 -- The same length.
@@ -176,8 +177,8 @@ lists-length w ended p entry exit r l =
     let h : p .written + length (l .text) ≤ length entry = subst (λ (n : ℕ). n ≤ length entry) (l .written) (l .room) in
     rw (l .put) (length-splice entry (l .text) (p .written) h)
 
-pub lists-start : (w : List ℕ) (ended : Bool) (entry : List ℕ) (p q : Progress) → q ≡ begun p → Lists w ended q entry entry q × (q .state ≡ Going)
-lists-start w ended entry p q e = rw e (record { text = []; put = splice-none entry 0; written = refl; room = omega arith; within = omega arith; lines = λ rest r. refl }, refl)
+pub lists-start : (w : List ℕ) (ended : Bool) (entry : List ℕ) (offset frames : ℕ) (q : Progress) → q ≡ begun offset frames → Lists w ended q entry entry q × (q .state ≡ Going)
+lists-start w ended entry offset frames q e = rw e (record { text = []; put = splice-none entry 0; written = refl; room = omega arith; within = omega arith; place = refl; lines = λ rest r. refl }, refl)
 
 pub lists-from : (w : List ℕ) (ended : Bool) (p q r : Progress) (a b : List ℕ) → q ≡ p → Lists w ended q a b r → Lists w ended p a b r
 lists-from w ended p q r a b e l = subst (λ (x : Progress). Lists w ended x a b r) e l
@@ -196,6 +197,7 @@ lists-more w ended p q r a b c l g m =
       written = omega (arith, n, x, y);
       room = omega (arith, k, z);
       within = m .within;
+      place = let i = l .place in let j = m .place in omega (arith, i, j);
       lines = λ rest f. l .lines rest f
           ∙ (ap (λ (s : State). l .text ++ behind s (linesOf (drop (q .from) (w ++ rest)) (q .offset) (q .frames))) g
           ∙ (ap (λ (s : List ℕ). l .text ++ s) (m .lines rest f) ∙ sym (append-assoc (l .text) (m .text) _)));

@@ -33,6 +33,14 @@ unfoldable pub following : List ℕ → Bool → Next
 following [] ended = cond ended whole more
 following (b ∷ s) ended = nextOf (readFrame (b ∷ s) limit) ended (length (b ∷ s)) (frameLength (b ∷ s))
 
+-- What comes next closes the listing: the capture's end, after a frame or inside one, or a refusal.
+abbrev pub closes : Next → Bool
+closes (framed total key version) = false
+closes whole = true
+closes (cut left needed) = true
+closes (refused number) = true
+closes more = false
+
 -- What comes next in a window is what comes next in the capture, unless more bytes are needed to tell.
 abbrev pub WindowTells : Type 0
 WindowTells = (w rest : List ℕ) → (following w false ≡ more) ⊎ (following (w ++ rest) true ≡ following w false)

@@ -1,13 +1,13 @@
 -- A listing in steps, through a window: each step prints what comes next (01 "The listing program").
 use mathlib.Core.Path.{_≡_}
 use mathlib.Core.Bool.{Bool, true, false, cond}
-use mathlib.Core.List.{List, [], _∷_, _++_}
+use mathlib.Core.List.{List, [], _++_}
 use Prim.Native.Nat.{ℕ, _+_, _≤_, _<_}
 use lib.Dec.{ltb}
 use lib.ListN.{length, drop}
 use Rattle.wire.specs.Buffer.{holds, splice}
 use Rattle.captures.specs.Text.{ascii, puts}
-use Rattle.captures.specs.Listing.{Next, framed, whole, cut, refused, more, following, frameLine, cutLine, refusedLine, closingLine, linesOf}
+use Rattle.captures.specs.Listing.{Next, framed, whole, cut, refused, more, following, closes, frameLine, cutLine, refusedLine, closingLine, linesOf}
 use Rattle.captures.specs.declared.listing.Progress.{Progress}
 use Rattle.captures.specs.declared.listing.State.{State}
 use Rattle.captures.specs.declared.listing.State.the-variants.{Going, More, Done, TooLong}
@@ -27,8 +27,8 @@ unfoldable pub tooLong : ℕ → ℕ → ℕ → Bool
 tooLong offset frames total = cond (ltb greatest (offset + total)) true (ltb greatest (frames + 1))
 
 -- At the start of a window and of a text.
-abbrev pub begun : Progress → Progress
-begun p = record { from = 0; offset = p .offset; frames = p .frames; written = 0; state = Going }
+abbrev pub begun : ℕ → ℕ → Progress
+begun offset frames = record { from = 0; offset = offset; frames = frames; written = 0; state = Going }
 
 -- No further in the capture, with so much text.
 abbrev pub halted : Progress → ℕ → State → Progress
@@ -70,22 +70,24 @@ behind Done s = []
 behind TooLong s = s
 
 -- A listing of the window w gone on with from p to r: the text that is put behind p's is the start of the lines that
--- the capture has from p on, whatever follows the window, and r tells where the others start. If it is done, there are
--- no others.
+-- the capture has from p on, whatever follows the window, and r tells where the others start, in the window and in the
+-- capture. If it is done, there are no others.
 pub record Lists (w : List ℕ) (ended : Bool) (p : Progress) (entry exit : List ℕ) (r : Progress) : Type 0 where
   pub text : List ℕ
   pub put : exit ≡ splice entry (p .written) text
   pub written : r .written ≡ p .written + length text
   pub room : r .written ≤ length entry
   pub within : r .from ≤ length w
+  pub place : r .offset + p .from ≡ p .offset + r .from
   pub lines : (rest : List ℕ) → Rest ended rest → linesOf (drop (p .from) (w ++ rest)) (p .offset) (p .frames) ≡ text ++ behind (r .state) (linesOf (drop (r .from) (w ++ rest)) (r .offset) (r .frames))
 
 -- Why a listing of the window w stopped where r says: less than 128 of so many bytes are left for the text; the
--- window's rest doesn't tell what comes next; or the next frame would end beyond the greatest offset or count.
+-- window's rest doesn't tell what comes next; what comes next closes the listing; or the next frame would end beyond the
+-- greatest offset or count.
 abbrev pub Stopped : State → List ℕ → Bool → ℕ → Progress → Type 0
 Stopped Going w ended len r = len < r .written + 128
 Stopped More w ended len r = following (drop (r .from) w) ended ≡ more
-Stopped Done w ended len r = Unit
+Stopped Done w ended len r = closes (following (drop (r .from) w) ended) ≡ true
 Stopped TooLong w ended len r = (total : ℕ) × (key : ℕ) × (version : ℕ) × (following (drop (r .from) w) ended ≡ framed total key version) × (tooLong (r .offset) (r .frames) total ≡ true)
 
 abbrev pub Stops : List ℕ → Bool → ℕ → Progress → Type 0

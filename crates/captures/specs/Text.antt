@@ -1,8 +1,8 @@
 -- Text and numbers in ASCII.
 use mathlib.Core.Bool.{cond}
 use mathlib.Core.List.{List, [], _∷_, _++_}
-use Prim.Native.Char.{Char, code}
-use Prim.Native.Nat.{ℕ, zero, suc, _+_, _/_, _%_}
+use Prim.Native.Char.{code}
+use Prim.Native.Nat.{ℕ, zero, suc, _+_, _/_}
 use Prim.Native.String.{String, [] as empty, _∷_ as _before_}
 use lib.Dec.{ltb}
 use Rattle.io.specs.Digits.{digits}

@@ -40,13 +40,13 @@ pub struct Progress {
     pub state: State,
 }
 
-// Lists the window's frames, as many as are whole and as out has room for. The window starts at start.offset of the
-// capture, behind start.frames frames; nothing follows it if the capture has ended.
-pub fn list(window: &[u8], ended: bool, start: Progress, out: &mut [u8]) -> Progress
-    ensures { λ r. ⌜ Lists (now (window .entry)) ended (begun start) (now (out .entry)) (now (out .exit)) r ⌝ }
+// Lists the window's frames, as many as are whole and as out has room for. The window starts at an offset of the capture,
+// after so many frames; nothing follows it if the capture has ended.
+pub fn list(window: &[u8], ended: bool, offset: u64, frames: u64, out: &mut [u8]) -> Progress
+    ensures { λ r. ⌜ Lists (now (window .entry)) ended (begun offset frames) (now (out .entry)) (now (out .exit)) r ⌝ }
     ensures { λ r. ⌜ Stops (now (window .entry)) ended (length (now (out .entry))) r ⌝ }
 {
-    let mut p = begin(start);
+    let mut p = begin(offset, frames);
     while has_room(p.written, out.len()) {
         p = step(window, ended, p, out);
         let state = p.state;
@@ -57,13 +57,13 @@ pub fn list(window: &[u8], ended: bool, start: Progress, out: &mut [u8]) -> Prog
     p
 }
 
-fn begin(start: Progress) -> Progress
-    ensures { λ r. ⌜ r ≡ begun start ⌝ }
+fn begin(offset: u64, frames: u64) -> Progress
+    ensures { λ r. ⌜ r ≡ begun offset frames ⌝ }
 {
     Progress {
         from: 0,
-        offset: start.offset,
-        frames: start.frames,
+        offset: offset,
+        frames: frames,
         written: 0,
         state: State::Going,
     }

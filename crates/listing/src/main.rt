@@ -1,19 +1,28 @@
 // Lists the frames of a capture on standard input (01 "The listing program").
-ghost use mathlib.Core.Path.{_≡_};
-ghost use lib.ListN.{length};
-
-mod input;
-mod session;
+use libc::STDERR_FILENO;
+use listing_loop::Stage;
 
 fn main() {
-    let mut window = empty_window();
-    let mut text = io::large_buffer();
-    session::run(&mut window, &mut text);
+    let mut window = [0u8; 262144];
+    let mut text = [0u8; 65536];
+    let end = listing_loop::run(&mut window, &mut text);
+    let stage = end.stage;
+    say_why(stage);
 }
 
-// Four of the longest frames within the limit.
-fn empty_window() -> [u8; 262144]
-    ensures { λ r. ⌜ 262144 ≡ length r ⌝ }
-{
-    [0; 262144]
+// Says on standard error why the listing has no closing line, if it has none.
+fn say_why(stage: Stage) {
+    match stage {
+        Stage::Listed => {}
+        Stage::Unreadable => say(b"listing: standard input can't be read\n"),
+        Stage::Unwritable => say(b"listing: standard output can't be written\n"),
+        // No capture gets to the stages after this one: a run ends in them after 2^64 - 1 reads and writes.
+        Stage::TooLong | Stage::Listing | Stage::Full | Stage::Reading => {
+            say(b"listing: the capture is too long\n")
+        }
+    }
+}
+
+fn say(message: &[u8]) {
+    io::write_all(STDERR_FILENO, message);
 }

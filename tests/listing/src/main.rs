@@ -1,14 +1,18 @@
 //! Compares the listing program with the reference's listing: on the captures, on every prefix of a small one, on
-//! captures that cross the borders of any buffer, and on captures with bytes altered, taken out or repeated.
+//! captures that cross the borders of any buffer, and on captures with bytes altered, taken out or repeated. Then it runs
+//! the program on inputs and outputs that fail, and on inputs that come in pieces.
 //!
 //!     listing [PROGRAM] [--seed S]         PROGRAM is target/bin/listing unless given
 
-use std::fs;
-use std::io::{self, Read, Write};
-use std::path::{Path, PathBuf};
-use std::process::{Command, ExitCode, Stdio};
-use std::thread;
+mod program;
+mod stories;
 
+use std::fs;
+use std::io;
+use std::path::{Path, PathBuf};
+use std::process::ExitCode;
+
+use program::listed;
 use random::Random;
 
 const SEED: u64 = 1;
@@ -36,9 +40,12 @@ fn main() -> ExitCode {
         }
     }
     println!("seed {seed}");
-    match check(&program, &repository.join("samples"), seed) {
-        Ok(runs) => {
-            println!("compared {runs} listings, 0 differences");
+    let samples = repository.join("samples");
+    let checked =
+        check(&program, &samples, seed).and_then(|runs| Ok((runs, stories::check(&program, &samples)?)));
+    match checked {
+        Ok((runs, stories)) => {
+            println!("compared {runs} listings, 0 differences; {stories} stories passed");
             ExitCode::SUCCESS
         }
         Err(reason) => {
@@ -54,7 +61,7 @@ fn check(program: &Path, folder: &Path, seed: u64) -> Result<usize, String> {
     for capture in &captures {
         let list = folder.join(&capture.name).with_extension("list");
         let expected = fs::read(&list).map_err(|error| format!("{}: {error}", list.display()))?;
-        if listed(program, &capture.bytes)? != expected {
+        if listed(program, &capture.bytes)?.output != expected {
             return Err(format!("{} is not listed as in {}", capture.name, list.display()));
         }
     }
@@ -142,35 +149,16 @@ fn compare(program: &Path, input: &Capture) -> Result<(), String> {
     let mut expected = Vec::new();
     reference::list(&input.bytes[..], &mut expected).map_err(|error| error.to_string())?;
     let answer = listed(program, &input.bytes)?;
-    if answer == expected {
+    if answer.output == expected && answer.errors.is_empty() {
         return Ok(());
     }
     let hex: String = input.bytes.iter().take(4096).map(|byte| format!("{byte:02x}")).collect();
     Err(format!(
-        "input: {}\n{} bytes, the first: {hex}\nprogram:\n{}reference:\n{}",
+        "input: {}\n{} bytes, the first: {hex}\nprogram:\n{}reference:\n{}standard error:\n{}",
         input.name,
         input.bytes.len(),
-        String::from_utf8_lossy(&answer),
+        String::from_utf8_lossy(&answer.output),
         String::from_utf8_lossy(&expected),
+        String::from_utf8_lossy(&answer.errors),
     ))
-}
-
-/// What the program prints for a capture. Its exit status is its own affair, a signal is not.
-fn listed(program: &Path, capture: &[u8]) -> Result<Vec<u8>, String> {
-    let failed = |error: io::Error| format!("{}: {error}", program.display());
-    let mut child =
-        Command::new(program).stdin(Stdio::piped()).stdout(Stdio::piped()).spawn().map_err(failed)?;
-    let (mut input, mut output) = (child.stdin.take().unwrap(), child.stdout.take().unwrap());
-    let mut answer = Vec::new();
-    let status = thread::scope(|scope| {
-        // A program that stops at a refusal closes its input early; that is no fault.
-        scope.spawn(move || _ = input.write_all(capture));
-        output.read_to_end(&mut answer)?;
-        child.wait()
-    })
-    .map_err(failed)?;
-    match status.code() {
-        Some(_) => Ok(answer),
-        None => Err(format!("{} ended by a signal: {status}", program.display())),
-    }
 }

@@ -1,5 +1,4 @@
 -- By where the two places are.
-use native.Mathlib.Omega.{arith}
 use Rattle.captures.proofs.Fronts.{front-none, front-before, front-all}
 use borrow.Author.Needs.{needs}
 use Rattle.captures.proofs.front.to_front.Statement.{statement}

@@ -1,5 +1,4 @@
 -- Each turn is a step that goes on behind the last.
-use native.Mathlib.Omega.{arith}
 use Prim.Native.Nat.{_-_}
 use lib.ListN.{length}
 use borrow.Author.Tests.{not-true, not-false}
@@ -12,10 +11,10 @@ use Rattle.captures.proofs.listing.list.Statement.{statement}
 use Rattle.captures.proofs.listing.list.Tie as tie
 
 abbrev Inv-loop : tie.InvT-loop
-Inv-loop window ended out₀ p₀ out p = Lists window ended p₀ out₀ out p × (p .state ≡ Going)
+Inv-loop window ended offset frames out₀ p₀ out p = Lists window ended p₀ out₀ out p × (p .state ≡ Going)
 
 abbrev μ-loop : tie.MeasureT-loop
-μ-loop window ended out₀ p₀ out p = length window - p .from
+μ-loop window ended offset frames out₀ p₀ out p = length window - p .from
 
 pub list-spec : {M : Type 1} → statement M
 list-spec =
@@ -24,7 +23,7 @@ list-spec =
     Inv-loop
     μ-loop
     (λ c κs. search needs)
-    (λ c. lists-start _ _ _ (c .before .before .before .args .start) _ (c .begin .ensures))
+    (λ c. lists-start _ _ _ _ _ _ (c .begin .ensures))
     (λ c κs. search needs)
     (λ c κs. c .before .before .before .loop .inv .0 .within)
     (λ c κs. search needs)

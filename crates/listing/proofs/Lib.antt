@@ -1,2 +1,0 @@
--- Why the window stays within its bounds.
-pub mod Fillings

@@ -1,2 +1,0 @@
--- The parts of a window.
-pub mod Filling

@@ -1,0 +1,26 @@
+-- What a whole run does, of what it read and what it handed to the output.
+use mathlib.Core.Path.{_≡_}
+use mathlib.Core.Bool.{true}
+use mathlib.Core.List.{List, [], _∷_, _++_}
+use mathlib.Core.Logic.{_⊎_}
+use Prim.Native.Nat.{ℕ, _+_}
+use lib.ListN.{length}
+use Rattle.captures.specs.Listing.{refused, listing}
+use Rattle.captures.specs.Steps.{greatest, Rest}
+use Rattle.listing_loop.specs.History.{History, capture, handed}
+use Rattle.listing_loop.specs.Stages.{isOver}
+use Rattle.listing_loop.specs.Standing.{next, Stands}
+use Rattle.listing_loop.specs.declared.session.Session.{Session}
+use Rattle.listing_loop.specs.declared.session.Stage.the-variants.{Listed}
+
+pub record Ran (r : Session) (window text : List ℕ) : Type 0 where
+  pub history : History
+  pub stands : Stands history r window text
+  -- It is over and no text waits, or as many reads and writes were made as are counted.
+  pub stops : ((isOver (r .stage) ≡ true) × (r .waiting ≡ 0)) ⊎ (length (history .reads) + length (history .writes) ≡ greatest)
+  -- In whatever stage it ends, the listing of the capture begins with the text handed to the output, whatever was not read.
+  pub begun : (rest : List ℕ) → Rest (r .ended) rest → (left : List ℕ) × (listing (capture history ++ rest) ≡ handed history ++ left)
+  -- Once it is listed, that text is the whole listing of what was read,
+  pub whole : r .stage ≡ Listed → handed history ≡ listing (capture history)
+  -- and the last read gave nothing, or a frame is refused.
+  pub closed : r .stage ≡ Listed → ((earlier : List (List ℕ)) × (history .reads ≡ [] ∷ earlier)) ⊎ ((number : ℕ) × (next history r ≡ refused number))
