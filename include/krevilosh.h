@@ -160,9 +160,9 @@ uint64_t krevilosh_chunk_open(const uint8_t *chunk, size_t len, uint64_t reader[
  *   1 above the refusal number   an entry, and the reader has moved past it
  *   0 above it                   the end: no entries are left, and reader and entry stay as they were
  * Of a chunk that was opened no entry is refused: every message is given once, in order, and then the end, however often
- * it is asked for (theorem SlotRun, crates/chunk_reader/specs/SlotRun.antt). A reader that the host filled itself, or bytes that were changed, get an
- * answer too: the end where no entries are left, whatever the place, else what the entry at the place gives. A message
- * that is given always lies in the chunk.
+ * it is asked for (theorem SlotRun, crates/chunk_reader/specs/SlotRun.antt). A reader that the host filled itself, or bytes
+ * that were changed, get an answer too: the end where no entries are left, whatever the place, else what the entry at the
+ * place gives. A message that is given always lies in the chunk.
  * Refusals: 6 for an entry of which not four bytes are there, 10 if its top bit is 1, 6 for a message that is cut.
  */
 uint64_t krevilosh_chunk_next(const uint8_t *chunk, size_t len, uint64_t reader[4], uint64_t entry[8]);
