@@ -1,52 +1,69 @@
 -- Each turn makes one read, or one write. After a read that failed what waits is written in the same turn, and the run is over.
 -- Assumes nothing.
-use mathlib.Core.Path.{_≡_, refl, sym, _∙_, ap}
+use mathlib.Core.Path.{_≡_, refl, sym, _∙_, ap, subst}
 use mathlib.Core.Bool.{Bool, true, false, cond}
-use mathlib.Core.List.{List, _++_}
+use mathlib.Core.List.{List, [], _∷_, _++_}
 use mathlib.Core.Logic.{inl, inr}
-use Prim.Native.Nat.{ℕ, _+_, _≤_}
+use Prim.Native.Nat.{ℕ, _+_, _<_, _≤_}
 use native.Mathlib.Omega.{arith}
 use lib.IntN.{ℤ, pos, negsuc}
-use lib.ListN.{length, take, drop}
+use lib.ListN.{length, take, drop, length-append}
 use lib.Seq.{length-take-le, take-at}
+use Rattle.captures.specs.Listing.{Next}
 use Rattle.captures.specs.Steps.{greatest}
-use Rattle.listing_loop.specs.History.{History, afterRead, afterWrite}
+use Rattle.listing_loop.specs.History.{History, inOrder, capture, handed, ended, afterRead, afterWrite}
 use Rattle.listing_loop.specs.Run.{Ran}
 use Rattle.listing_loop.specs.Stages.{isListing, isOver, stageRead, stageWritten}
-use Rattle.listing_loop.specs.Standing.{Stands}
+use Rattle.listing_loop.specs.Standing.{Because, Stands}
 use Rattle.listing_loop.specs.declared.session.Session.{Session}
 use Rattle.listing_loop.specs.declared.session.Stage.{Stage}
 use Rattle.listing_loop.specs.declared.session.Stage.the-variants.{Listing, Full, Reading, Listed, TooLong, Unreadable, Unwritable}
-use Rattle.listing_loop.proofs.Standings.{window-kept, handed-so-far, whole-listing, listing-closed}
+use Rattle.listing_loop.proofs.Standings.{window-kept, not-ended, handed-so-far, whole-listing, listing-closed}
 
--- The reads and writes made.
-abbrev pub calls : History → ℕ
-calls h = length (h .reads) + length (h .writes)
+-- The bytes that were read and the bytes of text that were handed out. A read that gave nothing counts as one: it is the last.
+abbrev pub moved : History → ℕ
+moved h = length (capture h) + length (handed h) + cond (ended (h .reads)) 1 0
 
 -- Before a turn, after so many.
 abbrev pub Before : ℕ → Session → List ℕ → List ℕ → Type 0
-Before made s window text = (h : History) × Stands h s window text × (s .stage ≡ Listing) × (calls h ≡ made)
+Before made s window text = (h : History) × Stands h s window text × (s .stage ≡ Listing) × (made ≤ moved h)
 
 -- In a turn, before a write: a read was made, and the listing goes on; or a write is due.
 abbrev pub Within : ℕ → Session → List ℕ → List ℕ → Type 0
-Within made s window text = (h : History) × Stands h s window text × (calls h ≡ cond (isListing (s .stage)) (made + 1) made)
+Within made s window text = (h : History) × Stands h s window text × (s .stage ≡ Reading → ⊥) × (cond (isListing (s .stage)) (made + 1) made ≤ moved h)
 
 -- A turn without a read.
-pub nothing-read : (made : ℕ) (s s' : Session) (window window' text : List ℕ) (h : History) → Stands h s window text → calls h ≡ made → isListing (s .stage) ≡ false → s' ≡ s → window' ≡ window → Within made s' window' text
-nothing-read made s s' window window' text h st e f x y = rw (x, y) (h, st, rw f e)
+pub nothing-read : (made : ℕ) (s s' : Session) (window window' text : List ℕ) (h : History) → Stands h s window text → made ≤ moved h → isListing (s .stage) ≡ false → (s .stage ≡ Reading → ⊥) → s' ≡ s → window' ≡ window → Within made s' window' text
+nothing-read made s s' window window' text h st e f d x y = rw (x, y) (h, st, d, rw f e)
 
-something-read : (made : ℕ) (r : Session) (window text part : List ℕ) (got : ℤ) (h : History) → Stands (afterRead got part h) r window text → r .stage ≡ stageRead got → calls h ≡ made → Within made r window text
-something-read made r window text part got h st x e = (afterRead got part h, st, by got ∙ ap (λ (y : Stage). cond (isListing y) (made + 1) made) (sym x))
+-- A read gives a byte at least, or is the last.
+read-counts : (given : List ℕ) (reads : List (List ℕ)) (k made : ℕ) → ended reads ≡ false → made ≤ length (inOrder reads) + k + cond (ended reads) 1 0 → made + 1 ≤ length (inOrder (given ∷ reads)) + k + cond (ended (given ∷ reads)) 1 0
+unfolding inOrder ended
+read-counts [] reads k made e l =
+    let a = length-append (inOrder reads) [] in
+    let m : made ≤ length (inOrder reads) + k + 0 = subst (λ (x : Bool). made ≤ length (inOrder reads) + k + cond x 1 0) e l in
+    omega (arith, a, m)
+read-counts (b ∷ given) reads k made e l =
+    let a = length-append (inOrder reads) (b ∷ given) in
+    let m : made ≤ length (inOrder reads) + k + 0 = subst (λ (x : Bool). made ≤ length (inOrder reads) + k + cond x 1 0) e l in
+    omega (arith, a, m)
+
+something-read : (made : ℕ) (r : Session) (window text part : List ℕ) (got : ℤ) (h : History) → Stands (afterRead got part h) r window text → r .stage ≡ stageRead got → ended (h .reads) ≡ false → made ≤ moved h → Within made r window text
+something-read made r window text part got h st x e l = (afterRead got part h, st, λ y. not-reading got (sym x ∙ y), subst (λ (y : Stage). cond (isListing y) (made + 1) made ≤ moved (afterRead got part h)) (sym x) (by got))
   where
-    by : (got : ℤ) → calls (afterRead got part h) ≡ cond (isListing (stageRead got)) (made + 1) made
-    by (pos n) = omega (arith, e)
-    by (negsuc n) = e
+    not-reading : (got : ℤ) → stageRead got ≡ Reading → ⊥
+    not-reading (pos n) y = absurd (let o : _≡_ {A = ℕ} 0 1 = cc in omega arith)
+    not-reading (negsuc n) y = absurd (let o : _≡_ {A = ℕ} 0 1 = cc in omega arith)
+
+    by : (got : ℤ) → cond (isListing (stageRead got)) (made + 1) made ≤ moved (afterRead got part h)
+    by (pos n) = read-counts (take n part) (h .reads) (length (handed h)) made e l
+    by (negsuc n) = l
 
 -- A read into the window from the bytes held on.
-pub read-then : (made : ℕ) (h : History) (s r s' : Session) (before window window' text given : List ℕ) (got : ℤ) → Stands h s before text → s .stage ≡ Reading → calls h ≡ made → window ≡ take (s .held) before ++ given → length window ≡ length before → r .stage ≡ stageRead got → ((h : History) (text : List ℕ) → s .stage ≡ Reading → Stands h s window text → Stands (afterRead got (drop (s .held) window) h) r window text) → s' ≡ r → window' ≡ window → Within made s' window' text
+pub read-then : (made : ℕ) (h : History) (s r s' : Session) (before window window' text given : List ℕ) (got : ℤ) → Stands h s before text → s .stage ≡ Reading → made ≤ moved h → window ≡ take (s .held) before ++ given → length window ≡ length before → r .stage ≡ stageRead got → ((h : History) (text : List ℕ) → s .stage ≡ Reading → Stands h s window text → Stands (afterRead got (drop (s .held) window) h) r window text) → s' ≡ r → window' ≡ window → Within made s' window' text
 read-then made h s r s' before window window' text given got st reading e w l x f y z =
     let k : take (s .held) window ≡ take (s .held) before = ap (take (s .held)) w ∙ take-at (take (s .held) before) given (s .held) (length-take-le (s .held) before (st .fits .inside)) in
-    rw (y, z) (something-read made r window text (drop (s .held) window) got h (f h text reading (window-kept h s before text st window k l)) x e)
+    rw (y, z) (something-read made r window text (drop (s .held) window) got h (f h text reading (window-kept h s before text st window k l)) x (sym (st .ends) ∙ not-ended h s before text st reading) e)
 
 listing-stage : (x : Stage) → isListing x ≡ true → x ≡ Listing
 listing-stage Listing e = refl
@@ -68,9 +85,20 @@ over-stage true TooLong e = refl
 over-stage true Unreadable e = refl
 over-stage true Unwritable e = refl
 
+-- A write after which the listing goes on has text to write: no line had room.
+text-waits : (taken : Bool) (x : Stage) (n : Next) (len waiting offset frames : ℕ) → isListing (stageWritten taken x) ≡ true → isListing x ≡ false → (x ≡ Reading → ⊥) → 128 ≤ len → Because x n len waiting offset frames → 0 < waiting
+text-waits false x n len waiting offset frames e f d l b = absurd (let o : _≡_ {A = ℕ} 0 1 = cc in omega arith)
+text-waits true Listing n len waiting offset frames e f d l b = absurd (let o : _≡_ {A = ℕ} 0 1 = cc in omega arith)
+text-waits true Full n len waiting offset frames e f d l b = omega (arith, l, b)
+text-waits true Reading n len waiting offset frames e f d l b = absurd (d refl)
+text-waits true Listed n len waiting offset frames e f d l b = absurd (let o : _≡_ {A = ℕ} 0 1 = cc in omega arith)
+text-waits true TooLong n len waiting offset frames e f d l b = absurd (let o : _≡_ {A = ℕ} 0 1 = cc in omega arith)
+text-waits true Unreadable n len waiting offset frames e f d l b = absurd (let o : _≡_ {A = ℕ} 0 1 = cc in omega arith)
+text-waits true Unwritable n len waiting offset frames e f d l b = absurd (let o : _≡_ {A = ℕ} 0 1 = cc in omega arith)
+
 -- The next turn comes after a read.
 pub read-again : (made : ℕ) (s s' : Session) (window text : List ℕ) → Within made s window text → isListing (s .stage) ≡ true → s' ≡ s → Before (made + 1) s' window text
-read-again made s s' window text (h, st, e) l x = rw x (h, st, listing-stage (s .stage) l, e ∙ rw l)
+read-again made s s' window text (h, st, d, e) l x = rw x (h, st, listing-stage (s .stage) l, subst (λ (b : Bool). cond b (made + 1) made ≤ moved h) l e)
 
 module _ (made : ℕ) (s r : Session) (window text lines : List ℕ) (taken : Bool) (w : Within made s window text) (l : isListing (s .stage) ≡ false) (p : lines ≡ take (s .waiting) text) (f : (h : History) (window text : List ℕ) → lines ≡ take (s .waiting) text → Stands h s window text → Stands (afterWrite taken lines h) r window text) where
   after : History
@@ -81,9 +109,15 @@ module _ (made : ℕ) (s r : Session) (window text lines : List ℕ) (taken : Bo
   stands-after = f (w .0) window text p (w .1)
 
   -- The next turn comes after a write.
-  pub write-again : (s' : Session) → isListing (r .stage) ≡ true → s' ≡ r → Before (made + 1) s' window text
-  unfolding after
-  write-again s' x y = rw y (after, stands-after, listing-stage (r .stage) x, let e : calls (w .0) ≡ made = w .2 ∙ rw l in omega (arith, e))
+  pub write-again : (s' : Session) → 128 ≤ length text → r .stage ≡ stageWritten taken (s .stage) → isListing (r .stage) ≡ true → s' ≡ r → Before (made + 1) s' window text
+  unfolding after inOrder
+  write-again s' room y x z =
+      let st = w .1 in
+      let some : 0 < s .waiting = text-waits taken (s .stage) _ _ _ _ _ (ap isListing (sym y) ∙ x) l (w .2) room (st .because) in
+      let n : length lines ≡ s .waiting = ap length p ∙ length-take-le (s .waiting) text (st .fits .room) in
+      let a = length-append (handed (w .0)) lines in
+      let e : made ≤ moved (w .0) = subst (λ (b : Bool). cond b (made + 1) made ≤ moved (w .0)) l (w .3) in
+      rw z (after, stands-after, listing-stage (r .stage) x, omega (arith, some, n, a, e))
 
   -- The run is over after a write.
   pub write-over : r .waiting ≡ 0 → r .stage ≡ stageWritten taken (s .stage) → isListing (r .stage) ≡ false → Ran r window text
@@ -98,13 +132,17 @@ module _ (made : ℕ) (s r : Session) (window text lines : List ℕ) (taken : Bo
       }
 
 -- All turns are made.
-pub turns-over : (made : ℕ) (s : Session) (window text : List ℕ) → Before made s window text → greatest ≤ made → made ≤ greatest → Ran s window text
-turns-over made s window text (h, st, x, e) l m =
+pub turns-over : (made : ℕ) (s : Session) (window text : List ℕ) → Before made s window text → greatest ≤ made → Ran s window text
+turns-over made s window text (h, st, x, e) l =
     record {
       history = h;
       stands = st;
-      stops = inr (omega (arith, e, l, m));
+      stops = inr (at-most (ended (h .reads)) e);
       begun = handed-so-far h s window text st;
       whole = λ y. absurd (let o : _≡_ {A = ℕ} 0 1 = cc in omega arith);
       closed = λ y. absurd (let o : _≡_ {A = ℕ} 0 1 = cc in omega arith);
     }
+  where
+    at-most : (b : Bool) → made ≤ length (capture h) + length (handed h) + cond b 1 0 → greatest ≤ length (capture h) + length (handed h) + 1
+    at-most true k = omega (arith, k, l)
+    at-most false k = omega (arith, k, l)

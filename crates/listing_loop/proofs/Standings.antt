@@ -177,8 +177,12 @@ module _ (h : History) (s : Session) (window text : List ℕ) (st : Stands h s w
           because = needs-more;
         }
 
+    -- The input has not ended.
+    pub not-ended : s .ended ≡ false
+    not-ended = more-may-come (drop (s .offset) (capture h)) (s .ended) needs-more
+
     may-come : (rest : List ℕ) → Rest (s .ended) rest
-    may-come rest = subst (λ (x : Bool). Rest x rest) (sym (more-may-come (drop (s .offset) (capture h)) (s .ended) needs-more)) tt
+    may-come rest = subst (λ (x : Bool). Rest x rest) (sym not-ended) tt
 
     pub unreadable-stands : (got : ℤ) (k : ℕ) (part : List ℕ) → got ≡ negsuc k → Stands (afterRead got part h) (record { from = s .from; held = s .held; offset = s .offset; frames = s .frames; waiting = s .waiting; ended = s .ended; stage = Unreadable }) window text
     unreadable-stands got k part e = rw e (failed-stands k part)

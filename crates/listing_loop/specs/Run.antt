@@ -3,7 +3,7 @@ use mathlib.Core.Path.{_≡_}
 use mathlib.Core.Bool.{true}
 use mathlib.Core.List.{List, [], _∷_, _++_}
 use mathlib.Core.Logic.{_⊎_}
-use Prim.Native.Nat.{ℕ, _+_}
+use Prim.Native.Nat.{ℕ, _+_, _≤_}
 use lib.ListN.{length}
 use Rattle.captures.specs.Listing.{refused, listing}
 use Rattle.captures.specs.Steps.{greatest, Rest}
@@ -16,8 +16,8 @@ use Rattle.listing_loop.specs.declared.session.Stage.the-variants.{Liste
 pub record Ran (r : Session) (window text : List ℕ) : Type 0 where
   pub history : History
   pub stands : Stands history r window text
-  -- It is over and no text waits, or as many reads and writes were made as are counted.
-  pub stops : ((isOver (r .stage) ≡ true) × (r .waiting ≡ 0)) ⊎ (length (history .reads) + length (history .writes) ≡ greatest)
+  -- It is over and no text waits; or more bytes were read and written than are counted, less one.
+  pub stops : ((isOver (r .stage) ≡ true) × (r .waiting ≡ 0)) ⊎ (greatest ≤ length (capture history) + length (handed history) + 1)
   -- In whatever stage it ends, the listing of the capture begins with the text handed to the output, whatever was not read.
   pub begun : (rest : List ℕ) → Rest (r .ended) rest → (left : List ℕ) × (listing (capture history ++ rest) ≡ handed history ++ left)
   -- Once it is listed, that text is the whole listing of what was read,

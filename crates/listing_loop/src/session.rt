@@ -63,6 +63,7 @@ pub fn run(window: &mut [u8; 262144], text: &mut [u8; 65536]) -> Session
 // gets to.
 fn turns(window: &mut [u8], text: &mut [u8]) -> Session
     requires { ⌜ 65536 ≤ length (now window) ⌝ }
+    requires { ⌜ 128 ≤ length (now text) ⌝ }
     ensures { λ r. ⌜ Ran r (now (window .exit)) (now (text .exit)) ⌝ }
 {
     let mut made: u64 = 0;

@@ -1,9 +1,12 @@
 -- Each turn leaves a session that stands where the reads and writes so far have led to.
-use mathlib.Core.Path.{_≡_, refl, sym, _∙_, ap}
+use mathlib.Core.Path.{_≡_, refl, sym, _∙_, ap, subst}
+use mathlib.Core.List.{[], _∷_}
 use mathlib.Core.Logic.{⊎-elim}
 use Prim.Native.Nat.{_-_, _<_, _≤_}
 use native.Mathlib.Omega.{arith}
 use lib.ListN.{length}
+use denote.Enum.Declared.{tagOf}
+use types.Run.{OneOf, miss}
 use mir.Syntax.{w64}
 use mir.Val.{toZ, ofZ}
 use borrow.Author.Needs.{needs}
@@ -11,6 +14,9 @@ use borrow.Author.Tests.{not-true, not-false}
 use Rattle.captures.specs.Steps.{greatest}
 use Rattle.listing_loop.specs.History.{nothingYet}
 use Rattle.listing_loop.specs.Standing.{Stands}
+use Rattle.listing_loop.specs.declared.session.Stage.{Stage}
+use Rattle.listing_loop.specs.declared.session.Stage.the-variants.{Reading}
+use Rattle.listing_loop.proofs.session.Stage.{the-type}
 use Rattle.listing_loop.proofs.Standings.{held-short}
 use Rattle.listing_loop.proofs.Runs.{Before, Within, nothing-read, read-then, read-again, write-again, write-over, turns-over}
 use Rattle.listing_loop.proofs.session.turns.Statement.{statement}
@@ -33,6 +39,10 @@ room-then c = c .make-room .ensures .0 _ _ (listed-then (c .before .before .befo
 room-left : (c : tie.After-make-room Inv-loop μ-loop) → c .make-room .result .held < length (c .make-room .last .0)
 room-left c = c .make-room .ensures .1 .1 (held-short _ _ _ _ (listed-then (c .before .before .before .before .before .before)) (c .before .before .enum-told .given .1))
 
+-- A stage that is not matched is another one.
+not-read : (x : Stage) → OneOf (0 ∷ 1 ∷ 3 ∷ 4 ∷ 5 ∷ 6 ∷ []) (tagOf the-type x) → x ≡ Reading → ⊥
+not-read x k e = miss (0 ∷ 1 ∷ 3 ∷ 4 ∷ 5 ∷ 6 ∷ []) 2 tt (subst (λ (y : Stage). OneOf (0 ∷ 1 ∷ 3 ∷ 4 ∷ 5 ∷ 6 ∷ []) (tagOf the-type y)) e k)
+
 -- After a read, or none.
 joined : (c : tie.At-match-came Inv-loop μ-loop) → Within (c .before .before .before .before .before .before .before .loop .made) (c .match .at) (c .match .window) (c .before .before .before .listed .last .1 .0)
 joined c =
@@ -50,7 +60,7 @@ joined c =
     (λ w.
     let listed = c .before .before .before in
     let inv = listed .before .before .before .before .loop .inv .0 in
-    nothing-read _ _ _ _ _ _ (inv .0) (listed-then listed) (inv .3) (listed .listed .ensures .0) (w .2) (w .1))
+    nothing-read _ _ _ _ _ _ (inv .0) (listed-then listed) (inv .3) (listed .listed .ensures .0) (λ e. not-read _ (w .0 .keys2) e) (w .2) (w .1))
     (c .match .came)
 
 joined-length : (c : tie.At-match-came Inv-loop μ-loop) → length (c .match .window) ≡ length (c .before .before .before .before .before .before .before .before .before .before .before .args .window .now)
@@ -70,13 +80,13 @@ turns-spec =
     Inv-loop
     μ-loop
     (λ c κs. tt)
-    (λ c. ((nothingYet, c .started .ensures .1 _ _, c .started .ensures .0, refl), refl, refl, omega arith))
+    (λ c. ((nothingYet, c .started .ensures .1 _ _, c .started .ensures .0, omega arith), refl, refl, omega arith))
     (λ c κs. c .before .before .before .loop .inv .0 .1 .fits)
     (λ c. search needs)
     (λ c κs.
     let fits = listed-then (c .before .before .before .before .before) .fits in
     let same = c .before .before .before .before .before .before .before .before .before .loop .inv .1 in
-    let roomy = c .before .before .before .before .before .before .before .before .before .before .before .before .before .pre in
+    let roomy = c .before .before .before .before .before .before .before .before .before .before .before .before .before .pre .0 in
     (fits .order, (fits .inside, omega (arith, same, roomy))))
     (λ c. room-then (c .before .before) .fits .inside)
     (λ c. let inside = room-then (c .before .before) .fits .inside in omega (arith, inside))
@@ -107,7 +117,10 @@ turns-spec =
           let wrote = w .4 in
           let due = sym (c .before .is-listing .ensures) ∙ not-true _ (w .0 .taken) in
           let on = sym (w .5 .ensures) ∙ not-false _ (w .6 .left) in
-          write-again _ _ _ _ _ _ (write .result) (joined at) due (waiting .ensures) (wrote .ensures .1 .1) _ on (w .7))
+          let same = c .before .before .before .before .text .given in
+          let kept = c .before .before .before .before .before .before .before .before .before .loop .inv .2 in
+          let roomy = c .before .before .before .before .before .before .before .before .before .before .before .before .before .pre .1 in
+          write-again _ _ _ _ _ _ (write .result) (joined at) due (waiting .ensures) (wrote .ensures .1 .1) _ (omega (arith, same, kept, roomy)) (wrote .ensures .1 .0) on (w .7))
           (λ w. let on = sym (c .before .is-listing .ensures) ∙ not-false _ (w .0 .left) in read-again _ _ _ _ _ (joined at) on (w .1))
           (c .if1 .came),
       joined-length at,
@@ -116,4 +129,4 @@ turns-spec =
     ))
     (λ c. c .before .loop .inv .1)
     (λ c. c .before .loop .inv .2)
-    (λ c. turns-over _ _ _ _ (c .before .loop .inv .0) (c .loop-test .left) (c .before .loop .inv .3)))
+    (λ c. turns-over _ _ _ _ (c .before .loop .inv .0) (c .loop-test .left)))
