@@ -5,7 +5,6 @@ use Prim.Native.Nat.{ℕ}
 use lib.ListN.{replicate}
 use Rattle.protocol.specs.Fields.{noHeader, place}
 use Rattle.protocol.specs.Frames.{fieldsOf}
-use Rattle.protocol.specs.Refusals.{notOpen, noCredit}
 use Rattle.protocol.specs.declared.frame.Frame.the-variants.{Deliver}
 use Rattle.rules.specs.Cases as rules
 use Rattle.ledger.specs.Calls.{accepted, refused}
@@ -29,5 +28,5 @@ yes = accepted (frame (fieldsOf (Deliver 5 (record { header = noHeader; «data»
 pub record MarkedCases : Type 0 where
   pub A-L : rules.Cases
   pub M : answers (opening 5 2 ∷ delivery ∷ delivery ∷ delivery ∷ grant 5 1 ∷ delivery ∷ [])
-      ≡ accepted nothing ∷ yes ∷ yes ∷ refused (number noCredit) ∷ accepted nothing ∷ yes ∷ []
-  pub N : answers (grant 6 1 ∷ []) ≡ refused (number notOpen) ∷ []
+      ≡ accepted nothing ∷ yes ∷ yes ∷ refused (number 15) ∷ accepted nothing ∷ yes ∷ []
+  pub N : answers (grant 6 1 ∷ []) ≡ refused (number 13) ∷ []

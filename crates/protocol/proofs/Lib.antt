@@ -3,3 +3,4 @@ pub mod Unlisted
 pub mod Picked
 pub mod Counted
 pub mod FrameRows
+pub mod Numbers

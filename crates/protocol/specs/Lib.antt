@@ -1,5 +1,6 @@
 -- The protocol's vocabulary, from 01 and from the reference that it condenses (004).
 pub mod Refusals
+pub mod Numbers
 pub mod ResponseCodes
 pub mod Kinds
 pub mod Table
