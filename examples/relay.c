@@ -64,6 +64,7 @@ static void walk_messages(const uint64_t deliver[24], const uint8_t *bytes, stru
     const uint8_t *chunk = bytes + data[0] - 48;
     size_t len = 48 + (size_t)data[1];
 
+    /* The chunk of a Deliver that was read is always opened, and no entry of it is refused. */
     if (krevilosh_chunk_open(chunk, len, reader) != 0)
         return;
     while (KREVILOSH_NUMBER(krevilosh_chunk_next(chunk, len, reader, entry)) == 1) {

@@ -8,8 +8,9 @@
  * Everything gets an answer: any bytes, any limit, any id, any contents of a frame or ledger array. A call that is
  * refused changes nothing behind any pointer.
  *
- * A byte slice is a pointer and a length. Where the length is 0 the pointer may be null. Arrays have the size that is
- * written here. What a function changes must not overlap what it reads.
+ * A byte slice is a pointer and a length, which is below 2^63. Where the length is 0 the pointer may be null. Every pointer
+ * is valid for the length or for the array size that is written here, during the whole call. What a function changes overlaps
+ * nothing else that the call is given.
  *
  * A call uses at most 2,048 bytes of stack on x86-64. Of the C library the archive calls memcpy, memmove and memset, whose
  * stack is not counted, and nothing else.
@@ -33,6 +34,7 @@ extern "C" {
  *   an accepted write    the frame's length
  *   an entry of a chunk  1, which tells it from the end
  *   otherwise            0
+ * So the refusal number is 0 exactly if the call is accepted (theorem HostNumbers, crates/krevilosh/specs/Numbers.antt).
  */
 #define KREVILOSH_REFUSAL(answer) ((unsigned)((answer) & 0xff))
 #define KREVILOSH_NUMBER(answer) ((uint64_t)(answer) >> 8)
@@ -43,12 +45,12 @@ extern "C" {
 #define KREVILOSH_FRAME_TOO_SMALL 3     /* Size below 4 */
 #define KREVILOSH_UNKNOWN_KEY 4
 #define KREVILOSH_UNKNOWN_VERSION 5
-#define KREVILOSH_FIELD_CUT 6           /* a field ends beyond its frame, or a place reaches outside the source */
+#define KREVILOSH_FIELD_CUT 6           /* a field or an entry is cut, or a place reaches outside the source */
 #define KREVILOSH_BAD_LENGTH 7          /* a length below -1, a null that is not admitted, a negative count */
 #define KREVILOSH_NOT_UTF8 8
 #define KREVILOSH_REFERENCE_TOO_LONG 9  /* above 256 bytes */
-#define KREVILOSH_VALUE_NOT_ADMITTED 10 /* offset type, Active, chunk type, entry's top bit, records, index, width */
-#define KREVILOSH_BYTES_LEFT 11         /* behind the last field, element or entry */
+#define KREVILOSH_VALUE_NOT_ADMITTED 10 /* offset type, Active, chunk type, top bit, records, index, shape, width */
+#define KREVILOSH_BYTES_LEFT 11         /* after the last field, element or entry, or after a chunk's data */
 #define KREVILOSH_NO_ROOM 12            /* output shorter than the frame */
 #define KREVILOSH_NOT_OPEN 13
 #define KREVILOSH_ALREADY_OPEN 14
@@ -79,7 +81,7 @@ extern "C" {
 #define KREVILOSH_NULL UINT64_MAX
 
 /*
- * Reads the frame at the start of the bytes. A frame limit of 0 is no limit. What lies behind the frame is not looked
+ * Reads the frame at the start of the bytes. A frame limit of 0 is no limit. What follows the frame is not looked
  * at; its whole length is the first four bytes as a big-endian number, and 4.
  * Refusals: 1, 2, 3, 1, 4, 5, then those of the fields in wire order, then 11.
  */
@@ -134,8 +136,8 @@ uint64_t krevilosh_message(const uint64_t frame[24], const uint8_t *source, size
                            uint64_t message[8]);
 
 /*
- * The chunk reader: the entries of a chunk one after another, each call in constant time. The host owns the reader, an
- * array that krevilosh_chunk_open fills and krevilosh_chunk_next moves on:
+ * The chunk reader: the entries of a chunk one after another. Opening goes over all entries once; after that each question
+ * takes constant time. The host owns the reader, an array that krevilosh_chunk_open fills and krevilosh_chunk_next moves on:
  *   reader[0]             where the next entry begins, counted from the chunk's first byte
  *   reader[1]             how many entries are left
  *   reader[2], reader[3]  kept for later use: 0 when a chunk is opened, and then neither looked at nor changed
@@ -147,7 +149,8 @@ uint64_t krevilosh_message(const uint64_t frame[24], const uint8_t *source, size
  * a chunk of type 1 or 2, whose data stays unopened.
  * The chunk's bytes are its header of 48 bytes and its data, and nothing else. In a Deliver that was read they start 48
  * bytes before the place of the data: for version 1 they are the 48 + frame[16] bytes at bytes + frame[15] - 48, for
- * version 2 the 48 + frame[17] bytes at bytes + frame[16] - 48.
+ * version 2 the 48 + frame[17] bytes at bytes + frame[16] - 48. Such a chunk is always opened (theorem ChunkOfADeliver,
+ * crates/chunk_reader/specs/SlotRun.antt).
  * Refusals: 6 for a header that is cut, 10 for another type, 6 for data that is cut, 11 for bytes after the data; for type
  * 0 also 10 for records that differ from the entries, for each entry 6, 10, 6 (four bytes, top bit, message), and 11 for
  * data after the last entry.
@@ -205,7 +208,7 @@ uint64_t krevilosh_publisher_confirm(uint32_t ledger[257], uint8_t id, uint32_t 
 /*
  * Example: reads frames from a buffer as they come, and gives each message of a Deliver to `block`.
  *
- *     // The messages of a Deliver that was read from the bytes.
+ *     // The messages of a Deliver that was read from the bytes. Its chunk is always opened, and no entry of it is refused.
  *     void walk(const uint64_t frame[24], const uint8_t *bytes)
  *     {
  *         uint64_t reader[4], entry[8];

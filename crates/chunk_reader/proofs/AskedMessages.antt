@@ -27,9 +27,9 @@ use Rattle.elements.specs.Found.{messageCount, AllMessages, FieldFound, RowFoun
 use Rattle.elements.specs.Questions.{found, asked, readNth, messageAt}
 use Rattle.elements.proofs.Found.{everything-is-found}
 use Rattle.flat.proofs.Fields.{plain-table, of-row}
-use Rattle.chunk_reader.specs.Asked.{chunkAt, AskedAsRead, MessagesAreTheReaders}
+use Rattle.chunk_reader.specs.Asked.{AskedAsRead, MessagesAreTheReaders}
 use Rattle.chunk_reader.specs.Messages.{withNext, messagesAt}
-use Rattle.chunk_reader.specs.SlotRun.{messageNo}
+use Rattle.chunk_reader.specs.SlotRun.{messageNo, chunkAt}
 use Rattle.chunk_reader.proofs.Delivers.{ChunkStands, chunk-stands, versions}
 use Rattle.chunk_reader.proofs.Runs.{as-many}
 
@@ -49,7 +49,7 @@ module _ (pre part : List ℕ) where
       let e : n + at + k ≡ n + (at + k) = omega arith in
       rw (big-further k at, e, getD-append-add pre part (at + k) 0)
 
-  -- A length test 48 bytes further on is the same test.
+  -- A length test n bytes further on is the same test.
   same-test : (at : ℕ) → ltb (length t) (n + at) ≡ ltb (length part) at
   same-test at = by (ltb (length part) at) refl
     where

@@ -28,9 +28,8 @@ use Rattle.rules.proofs.Listed.{itself}
 use Rattle.rules.proofs.Parts.{Part, drop-take, length-part, starting, bytes-part}
 use Rattle.rules.proofs.SoundChunks.{sound-chunk}
 use Rattle.flat.specs.Flat.{flatFrame, padded}
-use Rattle.chunk_reader.specs.Asked.{chunkAt}
 use Rattle.chunk_reader.specs.Run.{Good, WellFormed}
-use Rattle.chunk_reader.specs.SlotRun.{ChunkThere, ChunkOfADeliver}
+use Rattle.chunk_reader.specs.SlotRun.{chunkAt, ChunkThere, ChunkOfADeliver}
 use Rattle.chunk_reader.proofs.SlotRuns.{slot-run}
 
 -- The encoding of a valid chunk is a well-formed chunk.

@@ -1,8 +1,8 @@
 -- A message that is asked for by its index in a frame is the one that a reader of the frame's chunk gives for that question.
 use mathlib.Core.Path.{_≡_}
 use mathlib.Core.List.{List, [], _∷_, _++_}
-use Prim.Native.Nat.{ℕ, _+_, _-_, _<_}
-use lib.ListN.{length, take, drop}
+use Prim.Native.Nat.{ℕ, _-_, _<_}
+use lib.ListN.{length}
 use Rattle.wire.specs.Integers.{Bytes}
 use Rattle.protocol.specs.Fields.{Field, Fields, further}
 use Rattle.protocol.specs.Fields as F
@@ -13,11 +13,7 @@ use Rattle.elements.specs.Found.{messageCount}
 use Rattle.elements.specs.Questions.{found, messageAt}
 use Rattle.chunk_reader.specs.Messages.{messagesOf}
 use Rattle.chunk_reader.specs.Run.{WellFormed}
-use Rattle.chunk_reader.specs.SlotRun.{messageNo}
-
--- The chunk whose data stands at a place: its header is the 48 bytes before the data.
-abbrev pub chunkAt : List ℕ → Place → List ℕ
-chunkAt s p = take (48 + p .len) (drop (p .at - 48) s)
+use Rattle.chunk_reader.specs.SlotRun.{messageNo, chunkAt}
 
 -- A reader of these bytes gives the messages of this header, as many as there are, and each is the one found at its index. The
 -- reader's places count from the chunk's first byte.

@@ -1,16 +1,13 @@
 -- The messages of a chunk (01 "Chunks"), by their places in the chunk's bytes `s`, header first.
-use mathlib.Core.Bool.{Bool, true, false, cond}
-use mathlib.Core.List.{List, [], _∷_, _++_, map}
+use mathlib.Core.Bool.{Bool, true, false}
+use mathlib.Core.List.{List, [], _∷_, map}
 use Prim.Native.Nat.{ℕ, zero, suc}
-use lib.ListN.{length}
-use Rattle.wire.specs.Integers.{digits}
 use Rattle.protocol.specs.Fields.{Field, place, bytesAt}
-use Rattle.protocol.specs.declared.chunk.ChunkHeader.{ChunkHeader}
 use Rattle.protocol.specs.declared.place.Place.{Place}
 use Rattle.elements.specs.Found.{messageCount}
 use Rattle.elements.specs.Questions.{partAt}
 use Rattle.rules.specs.Outcome.{Outcome, got, refused}
-use Rattle.rules.specs.Reading.{headerAt, hasEntries, readEntry, readChunk}
+use Rattle.rules.specs.Reading.{headerAt, readEntry, readChunk}
 use Rattle.chunk_reader.specs.declared.spot.Found.{Found}
 use Rattle.chunk_reader.specs.declared.spot.Found.the-variants.{Ready, Message, Done, Refused}
 

@@ -54,27 +54,37 @@ entrySlots m = m .at ∷ m .len ∷ 0 ∷ 0 ∷ 0 ∷ 0 ∷ 0 ∷ 0 ∷ []
 
 pub record SlotRun (s : List ℕ) : Type 0 where
   -- Bytes that are not one well-formed chunk are refused with the check's number, which is not 0, and the slots stay.
-  pub refuses : (number at : ℕ) (old : List ℕ) → readChunk s 0 ≡ refused number at → (openNumber s ≡ number) × ((number ≡ 0 → ⊥) × (readerOpened s old ≡ old))
+  pub refuses : (number at : ℕ) (old : List ℕ) → readChunk s 0 ≡ refused number at
+      → (openNumber s ≡ number) × ((number ≡ 0 → ⊥) × (readerOpened s old ≡ old))
   -- A well-formed chunk is opened.
   pub opens : WellFormed s → (old : List ℕ) → (openNumber s ≡ 0) × (readerOpened s old ≡ atFirst s 0 0)
   -- Question n + 1 then gives message n, so that each is given once and in order.
-  pub gives : WellFormed s → (x y : ℕ) (e : List ℕ) (n : ℕ) → n < length (messagesOf s) → Answers s (askedTimes n s (lent (atFirst s x y) e)) (Message (messageNo s n)) (lent (pastMessage s n x y) (entrySlots (messageNo s n)))
+  pub gives : WellFormed s → (x y : ℕ) (e : List ℕ) (n : ℕ) → n < length (messagesOf s)
+      → Answers s (askedTimes n s (lent (atFirst s x y) e)) (Message (messageNo s n)) (lent (pastMessage s n x y) (entrySlots (messageNo s n)))
   -- After the last one it is done, for ever, and nothing changes any more.
-  pub done : WellFormed s → (x y : ℕ) (e : List ℕ) (n : ℕ) → length (messagesOf s) ≤ n → Answers s (askedTimes n s (lent (atFirst s x y) e)) Done (askedTimes n s (lent (atFirst s x y) e))
+  pub done : WellFormed s → (x y : ℕ) (e : List ℕ) (n : ℕ) → length (messagesOf s) ≤ n
+      → Answers s (askedTimes n s (lent (atFirst s x y) e)) Done (askedTimes n s (lent (atFirst s x y) e))
   -- Any bytes and any reader, also one that the host made up: with no entries left it is done, whatever its place;
-  pub nothingLeft : (at x y : ℕ) (e : List ℕ) → Answers s (lent (at ∷ 0 ∷ x ∷ y ∷ []) e) Done (lent (at ∷ 0 ∷ x ∷ y ∷ []) e)
+  pub nothingLeft : (at x y : ℕ) (e : List ℕ)
+      → Answers s (lent (at ∷ 0 ∷ x ∷ y ∷ []) e) Done (lent (at ∷ 0 ∷ x ∷ y ∷ []) e)
   -- else it gives what the entry at its place gives: a message, which lies in the bytes,
-  pub entryThere : (at left x y : ℕ) (e : List ℕ) (m : Place) (next : ℕ) → readEntry s at ≡ got m next → Answers s (lent (at ∷ suc left ∷ x ∷ y ∷ []) e) (Message m) (lent (next ∷ left ∷ x ∷ y ∷ []) (entrySlots m)) × (outside m s ≡ false)
+  pub entryThere : (at left x y : ℕ) (e : List ℕ) (m : Place) (next : ℕ) → readEntry s at ≡ got m next
+      → Answers s (lent (at ∷ suc left ∷ x ∷ y ∷ []) e) (Message m) (lent (next ∷ left ∷ x ∷ y ∷ []) (entrySlots m)) × (outside m s ≡ false)
   -- or a refusal, whose number is not 0.
-  pub entryRefused : (at left x y : ℕ) (e : List ℕ) (number p : ℕ) → readEntry s at ≡ refused number p → Answers s (lent (at ∷ suc left ∷ x ∷ y ∷ []) e) (Refused number) (lent (at ∷ suc left ∷ x ∷ y ∷ []) e) × (number ≡ 0 → ⊥)
+  pub entryRefused : (at left x y : ℕ) (e : List ℕ) (number p : ℕ) → readEntry s at ≡ refused number p
+      → Answers s (lent (at ∷ suc left ∷ x ∷ y ∷ []) e) (Refused number) (lent (at ∷ suc left ∷ x ∷ y ∷ []) e) × (number ≡ 0 → ⊥)
+
+-- The chunk whose data stands at a place: its header is the 48 bytes before the data.
+abbrev pub chunkAt : List ℕ → Place → List ℕ
+chunkAt s p = take (48 + p .len) (drop (p .at - 48) s)
 
 -- Where a flat Deliver says that its chunk's data stands, from the slot i on: the 48 bytes of the header stand before the
 -- data, the data lies in the bytes, and the two together are one well-formed chunk, which is opened.
 pub record ChunkThere (s slots : List ℕ) (i : ℕ) : Type 0 where
   pub header : 48 ≤ getD slots i 0
   pub inside : getD slots i 0 + getD slots (i + 1) 0 ≤ length s
-  pub whole : WellFormed (take (48 + getD slots (i + 1) 0) (drop (getD slots i 0 - 48) s))
-  pub opened : openNumber (take (48 + getD slots (i + 1) 0) (drop (getD slots i 0 - 48) s)) ≡ 0
+  pub whole : WellFormed (chunkAt s (place (getD slots i 0) (getD slots (i + 1) 0)))
+  pub opened : openNumber (chunkAt s (place (getD slots i 0) (getD slots (i + 1) 0))) ≡ 0
 
 -- So it is with the chunk of every Deliver that was read.
 abbrev pub ChunkOfADeliver : Type 0

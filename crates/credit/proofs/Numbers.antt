@@ -1,6 +1,5 @@
 -- A call asks one thing of an id, and is refused with the ledger's numbers; a received frame is refused by reading first. Assumes
 -- nothing.
-use mathlib.Core.Path.{_≡_, refl, subst, sym}
 use mathlib.Core.List.{List}
 use mathlib.Core.Logic.{_⊎_, inl, inr}
 use mathlib.Core.Option.{Option, none, some}

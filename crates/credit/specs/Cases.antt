@@ -1,7 +1,6 @@
 -- The marked cases A to N (01 "Frames and calls on either side"), under frame limit 0.
 use mathlib.Core.Path.{_≡_}
-use mathlib.Core.List.{List, [], _∷_, _++_, map, reverse}
-use Prim.Native.Nat.{ℕ}
+use mathlib.Core.List.{List, [], _∷_, map, reverse}
 use lib.ListN.{replicate}
 use Rattle.protocol.specs.Fields.{noHeader, place}
 use Rattle.protocol.specs.Frames.{fieldsOf}

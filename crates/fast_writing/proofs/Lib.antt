@@ -4,4 +4,4 @@ mod Eights
 mod Encoded
 mod Delivered
 mod Flattened
-pub mod Checking
+mod Checking

@@ -1,4 +1,4 @@
--- A content whose fields were read one behind another is read as its row says: the cursor behind the last field tells the
+-- A content whose fields were read one after another is read as its row says: the cursor after the last field tells the
 -- row's outcome, and the slots are those of the fields. Assumes nothing.
 use mathlib.Core.Path.{_≡_, refl, _∙_, sym, ap}
 use mathlib.Core.List.{List, [], _∷_, map}
@@ -27,7 +27,7 @@ row-slots (k · row) [] = omega arith
 row-slots (k · row) (f ∷ fs) = simp length-append (omega (arith, field-slots k f, row-slots row fs))
 
 module _ (k v : ℕ) (s : List ℕ) (row : Row) (c : Cursor) (h : c ≡ landed 8 (readRow row s 0)) where
-  -- The cursor behind a content, and the slots afterwards.
+  -- The cursor after a content, and the slots afterwards.
   abbrev pub Content : List ℕ → Cursor → List ℕ → Type 0
   Content old r new = (r ≡ landed 8 (readContent row s)) × (new ≡ contentSlots k v row (readContent row s) old)
 

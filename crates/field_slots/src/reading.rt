@@ -9,7 +9,7 @@ ghost use Rattle.protocol.specs.Layouts.{kindOf, rowFrom};
 ghost use Rattle.rules.specs.Reading.{readContent, readRow};
 ghost use Rattle.wire.specs.Integers.{widthOf};
 ghost use Rattle.fields.specs.Cursor.{landed};
-ghost use Rattle.flat.specs.Unflat.{slotsFor, slotsIn};
+ghost use Rattle.flat.specs.Unflat.{slotsIn};
 ghost use Rattle.field_slots.specs.Reading.{IntoSlots, Into, Filled, contentSlots};
 use chunks::chunk_field;
 use fields::Cursor;
@@ -59,13 +59,13 @@ pub fn read_content(
 }
 
 struct ReadFields {
-    // The cursor behind the fields says whether one is refused.
+    // The cursor after the fields says whether one is refused.
     next: Cursor,
     // Where the slots of the fields end.
     end: usize,
 }
 
-// The fields of a content, in wire order, put into the slots behind those of key and version.
+// The fields of a content, in wire order, put into the slots after those of key and version.
 fn read_fields(s: &[u8], fields: [u8; 6], slots: &mut [u64]) -> ReadFields
     ensures { λ r. ⌜ r .next ≡ landed 8 (readRow (rowFrom fields) (now (s .entry)) 0) ⌝ }
     ensures { λ r. ⌜ r .end ≡ 2 + slotsIn (rowFrom fields) ⌝ }

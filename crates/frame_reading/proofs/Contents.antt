@@ -1,4 +1,4 @@
--- A frame is what its content is read as: the cursor behind a content tells its outcome, and the slots of every layout's fields
+-- A frame is what its content is read as: the cursor after a content tells its outcome, and the slots of every layout's fields
 -- have room. Assumes nothing.
 use mathlib.Core.Path.{_≡_, refl, _∙_, sym, ap, subst}
 use mathlib.Core.List.{List, _∷_, map}
@@ -31,7 +31,7 @@ Answers reading old r new = (r ≡ told reading) × (new ≡ slotsAfter old read
 pub answered : (x reading : Reading) (old : List ℕ) (r : FrameRead) (new : List ℕ) → x ≡ reading → Answers x old r new → Answers reading old r new
 answered x reading old r new e a = subst (λ (y : Reading). Answers y old r new) e a
 
--- Every row of the table has room behind the slots of key and version.
+-- Every row of the table has room after the slots of key and version.
 pub roomy : (k v : ℕ) → slotsIn (rowOf k v) ≤ 22
 unfolding table
 roomy k v = leb-true (slotsIn (rowOf k v)) 22 (row-passes (λ row. leb (slotsIn row) 22) refl table k v refl)

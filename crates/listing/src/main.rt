@@ -16,7 +16,7 @@ fn say_why(stage: Stage) {
         Stage::Listed => {}
         Stage::Unreadable => say(b"listing: standard input can't be read\n"),
         Stage::Unwritable => say(b"listing: standard output can't be written\n"),
-        // No capture gets to the stages after this one: a run ends in them after 2^64 - 1 reads and writes.
+        // A run is left at the three after this one only after 2^64 - 1 turns, which no capture gets to.
         Stage::TooLong | Stage::Listing | Stage::Full | Stage::Reading => {
             say(b"listing: the capture is too long\n")
         }

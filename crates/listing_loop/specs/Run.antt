@@ -16,7 +16,7 @@ use Rattle.listing_loop.specs.declared.session.Stage.the-variants.{Liste
 pub record Ran (r : Session) (window text : List ℕ) : Type 0 where
   pub history : History
   pub stands : Stands history r window text
-  -- It is over and no text waits; or more bytes were read and written than are counted, less one.
+  -- It is over and no text waits; or 2^64 - 2 bytes or more were read and written.
   pub stops : ((isOver (r .stage) ≡ true) × (r .waiting ≡ 0)) ⊎ (greatest ≤ length (capture history) + length (handed history) + 1)
   -- In whatever stage it ends, the listing of the capture begins with the text handed to the output, whatever was not read.
   pub begun : (rest : List ℕ) → Rest (r .ended) rest → (left : List ℕ) × (listing (capture history ++ rest) ≡ handed history ++ left)

@@ -55,5 +55,6 @@ pub record Stands (h : History) (s : Session) (window text : List ℕ) : Type 0 
   pub within : s .offset ≤ length (capture h)
   pub unlisted : slice (s .from) (s .held) window ≡ drop (s .offset) (capture h)
   -- The text handed to the output and the text that waits are the listing so far, whatever will be read.
-  pub lines : (rest : List ℕ) → Rest (s .ended) rest → Begins (s .stage) (listing (capture h ++ rest)) (handed h ++ take (s .waiting) text) (linesOf (drop (s .offset) (capture h ++ rest)) (s .offset) (s .frames))
+  pub lines : (rest : List ℕ) → Rest (s .ended) rest
+      → Begins (s .stage) (listing (capture h ++ rest)) (handed h ++ take (s .waiting) text) (linesOf (drop (s .offset) (capture h ++ rest)) (s .offset) (s .frames))
   pub because : Because (s .stage) (next h s) (length text) (s .waiting) (s .offset) (s .frames)

@@ -18,6 +18,7 @@ use libc::STDOUT_FILENO;
 // The bytes of the longest frame within the limit of a listing.
 const LONGEST: usize = 65536;
 
+// What a listing does next, or why it is over.
 pub enum Stage {
     // The bytes that are there are to be listed.
     Listing,
@@ -35,6 +36,7 @@ pub enum Stage {
     Unwritable,
 }
 
+// Where a listing is.
 pub struct Session {
     // The bytes of the window from a place up to another, which are not listed yet.
     pub from: usize,
@@ -50,7 +52,7 @@ pub struct Session {
 }
 
 // Lists standard input on standard output, up to the first refusal or the input's end. The window holds four of the longest
-// frames.
+// frames. The arrays have the sizes that `turns` requires, so that no caller has to see to it.
 pub fn run(window: &mut [u8; 262144], text: &mut [u8; 65536]) -> Session
     ensures { λ r. ⌜ Ran r (now (window .exit)) (now (text .exit)) ⌝ }
 {
@@ -216,7 +218,7 @@ fn waiting(text: &[u8], at: Session) -> &[u8]
     &text[..n]
 }
 
-// After a write of the lines that waited, which took them or failed.
+// After a write of the lines that waited, which took them or failed. The lines are there for the contract alone.
 fn wrote(lines: &[u8], at: Session, taken: bool) -> Session
     ensures { λ r. ⌜ r .waiting ≡ 0 ⌝ }
     ensures { λ r. ⌜ r .stage ≡ stageWritten taken (at .stage) ⌝ }

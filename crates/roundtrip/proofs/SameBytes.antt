@@ -11,25 +11,7 @@ use lib.ListN.{length, getD, drop}
 use lib.Seq.{drop-cons}
 use Rattle.roundtrip.specs.Trip.{alike}
 
-never : (t : Bool) → t && false ≡ false
-never true = refl
-never false = refl
-
 -- ---- Both are there
-
-pub cut-first : (n : ℕ) (s t : List ℕ) → length s < n → false ≡ alike n s t
-unfolding alike
-cut-first zero s t h = absurd (omega arith)
-cut-first (suc n) [] t h = refl
-cut-first (suc n) (x ∷ s) [] h = refl
-cut-first (suc n) (x ∷ s) (y ∷ t) h = sym (never (eqb x y)) ∙ ap (λ (u : Bool). eqb x y && u) (cut-first n s t (omega (arith, h)))
-
-pub cut-second : (n : ℕ) (s t : List ℕ) → length t < n → false ≡ alike n s t
-unfolding alike
-cut-second zero s t h = absurd (omega arith)
-cut-second (suc n) [] t h = refl
-cut-second (suc n) (x ∷ s) [] h = refl
-cut-second (suc n) (x ∷ s) (y ∷ t) h = sym (never (eqb x y)) ∙ ap (λ (u : Bool). eqb x y && u) (cut-second n s t (omega (arith, h)))
 
 unsame : {A : Type 0} → false ≡ true → A
 unsame e = absurd (let z : _≡_ {A = ℕ} 0 1 = cc in omega arith)
@@ -44,6 +26,17 @@ both-there (suc n) (x ∷ s) (y ∷ t) e = let h = both-there n s t (second (eqb
     second : (u v : Bool) → u && v ≡ true → v ≡ true
     second true v e = e
     second false v e = unsame e
+
+-- Where one is cut they are not alike.
+cut : (t : Bool) → (t ≡ true → ⊥) → false ≡ t
+cut true h = absurd (h refl)
+cut false h = refl
+
+pub cut-first : (n : ℕ) (s t : List ℕ) → length s < n → false ≡ alike n s t
+cut-first n s t h = cut (alike n s t) (λ e. let l = both-there n s t e in absurd (omega (arith, h, l)))
+
+pub cut-second : (n : ℕ) (s t : List ℕ) → length t < n → false ≡ alike n s t
+cut-second n s t h = cut (alike n s t) (λ e. let l = both-there n s t e in absurd (omega (arith, h, l)))
 
 -- ---- Byte i
 

@@ -1,5 +1,5 @@
 -- Where reading can end: what is read ends no earlier than it begins and no later than the part, and a refusal has a
--- number other than 0 and a place in the part or at its end. So 0 can say that there is no refusal. Each check names
+-- number from 6 to 11 and a place in the part or at its end. So 0 can say that there is no refusal. Each check names
 -- its number and its place, and what is read one behind another has the first refusal. Assumes nothing.
 use mathlib.Core.Path.{_≡_, refl}
 use mathlib.Core.Bool.{Bool, true, false, not, cond, _&&_}

@@ -1,7 +1,7 @@
 -- Every check names its number. Those of a field are 6 to 11 (`Bounds`); the frame's own are 1 to 5 in reading, and in writing 2, 4, 5
 -- and 12. Assumes nothing.
-use mathlib.Core.Path.{_≡_, refl}
-use mathlib.Core.Bool.{Bool, true, false, cond, not, _&&_, _||_}
+use mathlib.Core.Path.{refl}
+use mathlib.Core.Bool.{Bool, true, false, not, _&&_, _||_}
 use mathlib.Core.List.{List, [], _∷_}
 use mathlib.Core.Logic.{inl, inr}
 use mathlib.Core.Option.{Option, none, some}
@@ -9,8 +9,7 @@ use Prim.Native.Nat.{ℕ, _+_, _/_, _^_, _≤_}
 use native.Mathlib.Omega.{arith}
 use lib.Dec.{T, eqb, ltb, leb}
 use lib.ListN.{length as len}
-use Rattle.wire.specs.Buffer.{splice}
-use Rattle.wire.specs.Integers.{Bytes, digits, bigEndian}
+use Rattle.wire.specs.Integers.{Bytes, bigEndian}
 use Rattle.wire.proofs.Widths.{integers}
 use Rattle.protocol.specs.Decision.{Decision, layout, unlistedKey, unlistedVersion, decide}
 use Rattle.protocol.specs.Fields.{Field, Fields, bytesAt, outside}
@@ -21,10 +20,10 @@ use Rattle.protocol.specs.declared.kind.Form.{Form}
 use Rattle.protocol.specs.declared.offset.OffsetSpecification.{OffsetSpecification}
 use Rattle.protocol.specs.declared.offset.OffsetSpecification.the-variants.{None, First, Last, Next, Offset, Timestamp}
 use Rattle.protocol.specs.declared.place.Place.{Place}
-use Rattle.rules.specs.Answers.{Refusal, readingRefusal, writingRefusal, IfRefused, ReadingNumber, WritingNumber, Numbers}
+use Rattle.rules.specs.Answers.{readingRefusal, writingRefusal, IfRefused, ReadingNumber, WritingNumber, Numbers}
 use Rattle.rules.specs.Outcome.{Outcome, got, refused, repeated}
-use Rattle.rules.specs.Reading.{isChunkType, hasEntries, tooLong, isText, overLimit, readEntry, readRow, readContent, Reading, frame, short, refusal, readingOf, readLayout, readDecided, readSized, readFrame}
-use Rattle.rules.specs.Writing.{Encoding, wrote, refuse, checked, followed, fitsSigned, writeString, writeOffset, usedUp, writeList, fitsHeader, writeChunk, placeOf, writeField, writeRow, Written, length, Writing, unwritten, writeEncoded, writeDecided, writeFrame}
+use Rattle.rules.specs.Reading.{isChunkType, hasEntries, tooLong, isText, overLimit, readEntry, readRow, readContent, Reading, short, refusal, readingOf, readLayout, readDecided, readSized, readFrame}
+use Rattle.rules.specs.Writing.{Encoding, wrote, refuse, checked, followed, fitsSigned, writeString, writeOffset, usedUp, writeList, fitsHeader, writeChunk, placeOf, writeField, writeRow, Writing, unwritten, writeEncoded, writeDecided, writeFrame}
 use Rattle.rules.specs.Writing as writing
 use Rattle.rules.proofs.Bounds.{FieldNumber, isFieldNumber, named, Bounded, bounded-repeated, bounded-entry, bounded-row, bounded-content}
 use Rattle.rules.proofs.Gives.{choice}

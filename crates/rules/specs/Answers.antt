@@ -41,7 +41,7 @@ abbrev pub IfRefused : (Refusal → Type 0) → Option Refusal → Type 0
 IfRefused P none = Unit
 IfRefused P (some r) = P r
 
--- The bytes needed, of which a frame has at least its Size.
+-- The bytes needed: Size + 4, or 4 where Size itself is cut.
 abbrev pub Needs : Option ℕ → Type 0
 Needs none = ⊥
 Needs (some n) = (4 ≤ n) × (n ≤ 4294967299)

@@ -11,15 +11,15 @@ struct Accepted {
     sum: u64,
 }
 
-// A line for each leading byte: for each number of bytes behind it how many texts pass, and the sum of their numbers
+// A line for each leading byte: for each number of bytes after it how many texts pass, and the sum of their numbers
 // modulo 65,536.
 pub fn run() {
     for lead in 0..256u32 {
-        behind(lead as u8);
+        of_lead(lead as u8);
     }
 }
 
-fn behind(lead: u8) {
+fn of_lead(lead: u8) {
     text::word(b"utf8");
     text::hex(lead as u64, 2);
     passing(lead, 1, 1);

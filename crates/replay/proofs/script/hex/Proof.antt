@@ -6,8 +6,7 @@ use native.Mathlib.Omega.{arith}
 use denote.Ref.{now}
 use lib.ListN.{length, take, drop, length-set}
 use Rattle.replay.specs.Numbers.{octets}
-use Rattle.replay.proofs.Octets.{counts}
-use Rattle.replay.proofs.Octets.{length-octets, octet-at, put-more}
+use Rattle.replay.proofs.Octets.{counts, length-octets, octet-at, put-more}
 use borrow.Author.Needs.{needs}
 use Rattle.replay.proofs.script.hex.Statement.{statement}
 use Rattle.replay.proofs.script.hex.Tie as tie
