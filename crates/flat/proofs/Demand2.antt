@@ -3,9 +3,13 @@
 use mathlib.Core.Path.{ap}
 use Rattle.rules.proofs.Demand2.{demand-2 as over-fields}
 use Rattle.rules.specs.Reading.{Reading}
-use Rattle.flat.specs.Demand2.{Demand2}
+use Rattle.flat.specs.Demand2.{ReadsTheTypedFrame, Demand2}
 use Rattle.flat.specs.Flat.{slotsAfter}
 use Rattle.flat.proofs.RoundTrips as RoundTrips
+use Rattle.flat.proofs.Zeros.{others-are-zero}
+
+reads-the-typed-frame : ReadsTheTypedFrame
+reads-the-typed-frame s old limit f e = ap (λ (r : Reading). slotsAfter old r) e
 
 pub demand-2 : Demand2
 demand-2 =
@@ -13,5 +17,6 @@ demand-2 =
       fields = over-fields;
       read-then-write = RoundTrips.read-then-write;
       write-then-read = RoundTrips.write-then-read;
-      reads-the-typed-frame = λ s old limit f e. ap (λ (r : Reading). slotsAfter old r) e;
+      reads-the-typed-frame = reads-the-typed-frame;
+      others-are-zero = others-are-zero;
     }

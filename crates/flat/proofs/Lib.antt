@@ -6,4 +6,5 @@ pub mod Inverse
 pub mod Padding
 pub mod Fields
 pub mod RoundTrips
+pub mod Zeros
 pub mod Demand2

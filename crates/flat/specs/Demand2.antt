@@ -3,10 +3,11 @@
 use mathlib.Core.Path.{_≡_}
 use mathlib.Core.List.{List}
 use Prim.Native.Nat.{ℕ, _≤_}
-use lib.ListN.{length as len, take}
+use lib.ListN.{length as len, take, drop}
 use Rattle.wire.specs.Integers.{Bytes}
 use Rattle.protocol.specs.Fields.{Fields}
 use Rattle.protocol.specs.Frames.{fieldsOf}
+use Rattle.protocol.specs.Table.{rowOf}
 use Rattle.protocol.specs.declared.frame.Frame.{Frame}
 use Rattle.protocol.specs.declared.place.Place.{Place}
 use Rattle.rules.specs.Demand2 as fields
@@ -16,7 +17,7 @@ use Rattle.rules.specs.RoundTrips.{writes, WroteAndReads}
 use Rattle.rules.specs.Writing.{length}
 use Rattle.flat.specs.Flat.{flatFrame, slotsAfter}
 use Rattle.flat.specs.Unflat.{unflatFrame, writeFlat}
-use Rattle.flat.specs.Slots.{Words, frameOfSlots, SameFrame}
+use Rattle.flat.specs.Slots.{Words, frameOfSlots, SameFrame, ZeroRow}
 
 -- A frame is read into slots, and these are written from the bytes that were read, under the same limit, into enough room: the
 -- same bytes come back, and the rest of the output is untouched.
@@ -50,8 +51,16 @@ ReadsTheTypedFrame =
     → readFrame s limit ≡ frame (fieldsOf f)
     → slotsAfter old (readFrame s limit) ≡ flatFrame (fieldsOf f)
 
+-- After a read the slots that say nothing are 0.
+abbrev pub OthersAreZero : Type 0
+OthersAreZero =
+    (s old : List ℕ) (limit : ℕ) (f : Fields Place) → Bytes s
+    → readFrame s limit ≡ frame f
+    → ZeroRow (rowOf (f .key) (f .version)) (drop 2 (slotsAfter old (readFrame s limit)))
+
 pub record Demand2 : Type 0 where
   pub fields : fields.Demand2
   pub read-then-write : ReadThenWrite
   pub write-then-read : WriteThenRead
   pub reads-the-typed-frame : ReadsTheTypedFrame
+  pub others-are-zero : OthersAreZero

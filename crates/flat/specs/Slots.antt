@@ -106,3 +106,19 @@ pub record SameFrame (x b y c : List ℕ) : Type 0 where
   pub key : slot x 0 ≡ slot y 0
   pub version : slot x 1 ≡ slot y 1
   pub content : SameRow (rowOf (slot x 0) (slot x 1)) (drop 2 x) b (drop 2 y) c
+
+-- ---- Slots that say nothing
+
+-- The place of a null is 0, and so is the value of an offset specification of type 0 to 3.
+abbrev pub ZeroField : Kind → List ℕ → Type 0
+ZeroField (unsigned n most) x = Unit
+ZeroField (signed n) x = Unit
+ZeroField (string form nullable) x = slot x 1 ≡ nullLength → slot x 0 ≡ 0
+ZeroField (specification admitsNone) x = slot x 0 < 4 → slot x 1 ≡ 0
+ZeroField (list row) x = Unit
+ZeroField chunk x = Unit
+
+-- So are all slots after those of the last field.
+abbrev pub ZeroRow : Row → List ℕ → Type 0
+ZeroRow end x = (i : ℕ) → slot x i ≡ 0
+ZeroRow (kind · row) x = ZeroField kind x × ZeroRow row (drop (slotsOf kind) x)
