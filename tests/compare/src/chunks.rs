@@ -133,7 +133,7 @@ fn made_up(comparison: &mut Comparison, random: &mut Random, chunk: &[u8]) -> Do
         let (any, inside) = (random.number(), random.below(chunk.len() + 1) as u64);
         let edge = slot_value(random, length, chunk.len());
         let at =
-            random.pick(&[48, inside, edge, edge, length, length - 3, length - 4, u64::MAX - 3, u64::MAX]);
+            random.pick(&[HEADER as u64, inside, edge, edge, length, length - 3, length - 4, u64::MAX - 3, u64::MAX]);
         let left = random.pick(&[0, 0, 1, 2, 65_535, 65_536, 1 << 63, u64::MAX, any]);
         let last = [random.pick(&[0, 1, any]), random.pick(&[0, u64::MAX, any])];
         three_questions(comparison, chunk, [at, left, last[0], last[1]])?;

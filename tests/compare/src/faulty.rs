@@ -177,7 +177,7 @@ impl Boundary for Faulty {
         let answer = LIBRARY.chunk_next(chunk, reader, entry);
         match (self.0, answer) {
             (Fault::EntryIsGivenTwice, 0x100) => reader[0] = place,
-            (Fault::EntryPlaceCountsFromTheData, 0x100) => entry[0] = entry[0].wrapping_sub(48),
+            (Fault::EntryPlaceCountsFromTheData, 0x100) => entry[0] = entry[0].wrapping_sub(HEADER as u64),
             (Fault::EntryClearsTheLastSlots, 0x100) => reader[2..].fill(0),
             (Fault::EntryKeepsTheOtherSlots, 0x100) => entry[2..].copy_from_slice(&slots[2..]),
             (Fault::EndClearsTheEntry, 0) => entry.fill(0),

@@ -26,7 +26,7 @@ pub fn listed_from(program: &Path, input: Stdio, output: Stdio) -> Result<Writte
     run(program, input, output, drop)
 }
 
-/// Its exit status is its own affair, a signal is not.
+/// Any exit status is accepted; a signal is a fault.
 fn run(
     program: &Path,
     input: Stdio,
