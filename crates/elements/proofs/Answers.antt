@@ -22,11 +22,11 @@ use Rattle.protocol.specs.declared.chunk.ChunkHeader.{ChunkHeader}
 use Rattle.protocol.specs.declared.place.NullablePlace.{NullablePlace}
 use Rattle.protocol.specs.declared.place.NullablePlace.the-variants.{Null, At}
 use Rattle.protocol.specs.declared.place.Place.{Place}
-use Rattle.elements.specs.Questions.{Asked, found, refusal, asked, readNth, elementAt, messageAt, octetsIn, placeIn, fieldPart, messagePart, partAt}
+use Rattle.elements.specs.Questions.{Asked, found, refusal, asked, readNth, elementAt, messageAt, octetsIn, placeIn, fieldPart}
 use Rattle.rules.specs.Outcome.{Outcome, got, refused, repeated, mapped}
 use Rattle.rules.specs.Reading.{hasEntries, readRow, readEntry}
 use Rattle.rules.proofs.Bounds.{Numbered, FieldNumbered, numbered-row, numbered-entry, numbered-repeated, bounded-entry}
-use Rattle.elements.proofs.Questions.{part-inside, nth-gives, nth-bounded, entry-inside, element-inside, message-inside, place-inside}
+use Rattle.elements.proofs.Questions.{nth-gives, nth-bounded, entry-inside}
 use Rattle.rules.proofs.Gives.{Gives}
 use Rattle.fields.specs.Cursor.{cursor, from, landed, foundOr}
 use Rattle.fields.specs.declared.cursor.Cursor.{Cursor}
@@ -168,15 +168,10 @@ module _ (s : List ℕ) (h : ChunkHeader) (p : Place) (index : ℕ) where
 
 -- ---- Parts of what was found
 
-module _ (s : List ℕ) (p : Place) (index : ℕ) (r : List ℕ) where
-  -- A field of an element that is found lies within the source, so the part at its place is its bytes.
-  pub element-part : (row : Row) (count n : ℕ) (v : NullablePlace) (fs : List (Field Place)) → r ≡ nullablePart s v → found fs ≡ elementAt row s count p index → nullableField v .octets ≡ placeIn n fs → r ≡ fieldPart n s (elementAt row s count p index)
-  element-part row count n v fs i e o = i ∙ by v o ∙ ap (fieldPart n s) e
-    where
-      by : (v : NullablePlace) → nullableField v .octets ≡ placeIn n fs → nullablePart s v ≡ octetsIn s (placeIn n fs)
-      by Null o = ap (octetsIn s) o
-      by (At q) o = part-inside s q (subst (EndsBy (length s)) (sym o) (place-inside n (length s) fs (element-inside s p index row count fs (sym e)))) ∙ ap (octetsIn s) o
-
-  -- So it is with a message.
-  pub message-part : (h : ChunkHeader) (q : Place) → r ≡ partAt s q → found q ≡ messageAt s h p index → r ≡ messagePart s (messageAt s h p index)
-  message-part h q i e = i ∙ part-inside s q (message-inside s p index h q (sym e)) ∙ ap (messagePart s) e
+-- The part at the place of an element's field is the field's part.
+pub element-part : (row : Row) (s : List ℕ) (count : ℕ) (p : Place) (index n : ℕ) (r : List ℕ) (v : NullablePlace) (fs : List (Field Place)) → r ≡ nullablePart s v → nullableField v .octets ≡ placeIn n fs → found fs ≡ elementAt row s count p index → r ≡ fieldPart n s (elementAt row s count p index)
+element-part row s count p index n r v fs i o e = i ∙ by v ∙ ap (octetsIn s) o ∙ ap (fieldPart n s) e
+  where
+    by : (v : NullablePlace) → nullablePart s v ≡ octetsIn s (nullableField v .octets)
+    by Null = refl
+    by (At q) = refl

@@ -4,7 +4,7 @@
 use mathlib.Core.Path.{_≡_, refl, sym, ap, ap₂, subst, _∙_}
 use mathlib.Core.Bool.{Bool, true, false, _&&_}
 use mathlib.Core.List.{List, [], _∷_, _++_, append-nil, map, head-eq-of-cons-eq, tail-eq-of-cons-eq}
-use mathlib.Core.Option.{some}
+use mathlib.Core.Option.{Option, none, some, Option·map}
 use Prim.Native.Nat.{ℕ, zero, suc, _+_, _≤_, _<_}
 use native.Mathlib.Omega.{arith}
 use lib.IntN.{ℤ, pos, negsuc}
@@ -13,8 +13,10 @@ use borrow.Author.Tests.{le-ltb, lt-leb, le-leb, eqb-true}
 use Rattle.wire.specs.Integers.{digits}
 use Rattle.protocol.specs.Fields.{Field, Fields, place, bytesAt, outside, overPlaces, valueIn, further, EndsBy, PlacesEndBy}
 use Rattle.protocol.specs.Kinds.{Kind, unsigned, signed, string, specification, list, chunk, Row, end, _·_}
+use Rattle.protocol.specs.Refusals.{valueNotAdmitted}
 use Rattle.protocol.specs.Table.{rowOf}
 use Rattle.protocol.specs.declared.chunk.ChunkHeader.{ChunkHeader}
+use Rattle.protocol.specs.declared.place.NullablePlace.the-variants.{Null, At}
 use Rattle.protocol.specs.declared.place.Place.{Place}
 use Rattle.rules.specs.Exactness.{frameLength}
 use Rattle.rules.specs.Grammar.{encodeRow, Pieces, Entry, Valid, ValidRow}
@@ -31,9 +33,9 @@ use Rattle.rules.proofs.Parts.{Part, first-part, second-part, starting, length-
 use Rattle.rules.proofs.Sound.{values-further-on, sound}
 use Rattle.rules.proofs.SoundFields.{Element}
 use Rattle.rules.proofs.WriteField.{placed}
-use Rattle.elements.specs.Found.{Each, encodeElements, AllElements, encodeEntries, AllMessages, FieldFound, RowFound, EverythingIsFound, PartsAreTheFields}
-use Rattle.elements.specs.Questions.{found, asked, readNth, elementAt, messageAt}
-use Rattle.elements.proofs.Questions.{entry-inside, parts-are-values}
+use Rattle.elements.specs.Found.{Each, encodeElements, textOf, octetsOf, AllElements, encodeEntries, messageCount, AllMessages, FieldFound, RowFound, EverythingIsFound, PartsAreTheFields, NullablePartIsTheField}
+use Rattle.elements.specs.Questions.{found, refusal, asked, readNth, elementAt, messageAt, octetsIn, placeIn, fieldPart, messagePart}
+use Rattle.elements.proofs.Questions.{part-inside, parts-are-values, entry-inside, element-inside, message-inside}
 
 -- ---- Pieces, one after another
 
@@ -89,6 +91,25 @@ each-map f P Q g (a ∷ l) h = (g a (h .0), each-map f P Q g l (h .1))
 asked-got : {A B : Type 0} (f : A → B) (o : Outcome A) (a : A) (next : ℕ) → o ≡ got a next → asked (mapped f o) ≡ found (f a)
 asked-got f o a next e = ap (λ x. asked (mapped f x)) e
 
+-- ---- Parts of what was found
+
+-- What is found lies within the source, so its part is its bytes.
+module _ (s : List ℕ) where
+  octets-there : (n : ℕ) (fs : List (Field Place)) → PlacesEndBy (length s) fs → octetsIn s (placeIn n fs) ≡ octetsOf n (map (valueIn s) fs)
+  octets-there n [] h = refl
+  octets-there zero (f ∷ fs) h = by (f .octets) (h .0)
+    where
+      by : (o : Option Place) → EndsBy (length s) o → octetsIn s o ≡ textOf (Option·map (bytesAt s) o)
+      by none h = refl
+      by (some p) h = part-inside s p h
+  octets-there (suc n) (f ∷ fs) h = octets-there n fs (h .1)
+
+  element-part : (row : Row) (count : ℕ) (p : Place) (n i : ℕ) (fs : List (Field Place)) → elementAt row s count p i ≡ found fs → fieldPart n s (elementAt row s count p i) ≡ octetsOf n (map (valueIn s) fs)
+  element-part row count p n i fs e = ap (fieldPart n s) e ∙ octets-there n fs (element-inside s p i row count fs e)
+
+  message-part : (h : ChunkHeader) (p : Place) (i : ℕ) (q : Place) → messageAt s h p i ≡ found q → messagePart s (messageAt s h p i) ≡ bytesAt s q
+  message-part h p i q e = ap (messagePart s) e ∙ part-inside s q (message-inside s p i h q e)
+
 module _ (s : List ℕ) (p : Place) (there : EndsBy (length s) (some p)) where
   abbrev part : List ℕ
   part = bytesAt s p
@@ -131,18 +152,29 @@ module _ (s : List ℕ) (p : Place) (there : EndsBy (length s) (some p)) where
     known : (fs : List (Field Place)) → Read fs → Known (at-place fs)
     known fs h = (subst (ValidRow row) (same-values fs (h .1)) (h .0), moved (p .at) (length part) (length s) fs (omega (arith, long, there)) (h .1))
 
+    element-there : (count : ℕ) (all : List (List (Field Place))) → length all ≡ count → (i : ℕ) → i < count → (next : ℕ) × (readNth (readRow row) i part ≡ got (getD all i []) next) → elementAt row s count p i ≡ found (getD (map at-place all) i [])
+    unfolding elementAt
+    element-there count all n i l (next, e) = rw (within, lt-leb count i l) (asked-got at-place _ (getD all i []) next e ∙ ap found (getD-map at-place all i [] [] (omega (arith, l, n))))
+
+    element-beyond : (count i : ℕ) → count ≤ i → elementAt row s count p i ≡ refusal valueNotAdmitted
+    unfolding elementAt
+    element-beyond count i l = rw (within, le-leb count i l)
+
     all-elements : (count : ℕ) → Pieces (Element row) count part → (all : AllElements s row count p) × Each Known (all .elements)
-    unfolding elementAt readNth
+    unfolding readNth
     all-elements count pieces =
         let f = finds part (readRow row) (λ fs. encodeRow row (map (valueIn part) fs)) Read [] (Element row) element count 0 part (length part) pieces whole in
-        let each = each-map at-place Read Known known (f .all) (f .each) in (
+        let each = each-map at-place Read Known known (f .all) (f .each) in
+        let there-at : (i : ℕ) → i < count → elementAt row s count p i ≡ found (getD (map at-place (f .all)) i []) = λ i l. element-there count (f .all) (f .as-many) i l (f .nth i l) in (
           record {
             elements = map at-place (f .all);
             as-many = length-map (f .all) at-place ∙ f .as-many;
-            found-at = λ i l. let t = f .nth i l in rw (within, lt-leb count i l) (asked-got at-place _ (getD (f .all) i []) (t .0) (t .1) ∙ ap found (getD-map at-place (f .all) i [] [] (omega (arith, l, f .as-many))));
-            no-other = λ i l. rw (within, le-leb count i l);
+            found-at = there-at;
+            no-other = element-beyond count;
             valid = each-of Known (λ fs. ValidRow row (map (valueIn s) fs)) (λ _ h. h .0) (map at-place (f .all)) each;
             bytes = same-bytes (f .all) (f .each) ∙ f .bytes;
+            parts = λ n i l. element-part s row count p n i _ (there-at i l);
+            no-part = λ n i l. ap (fieldPart n s) (element-beyond count i l);
           },
           each,
         )
@@ -164,8 +196,20 @@ module _ (s : List ℕ) (p : Place) (there : EndsBy (length s) (some p)) where
       let n : length (bytesAt part q) ≡ q .len = length-part (q .len) (q .at) part (h .0) in
       ap₂ (λ x y. x ++ y) (ap (λ b. digits 4 (length b) ++ b) m ∙ ap (λ k. digits 4 k ++ bytesAt part q) n) (same-entries all (h .1))
 
+  message-there : (h : ChunkHeader) → hasEntries (h .«chunk_type») ≡ true → (all : List Place) → length all ≡ h .entries → (i : ℕ) → i < h .entries → (next : ℕ) × (readNth readEntry i part ≡ got (getD all i (place 0 0)) next) → messageAt s h p i ≡ found (getD (map (further (p .at)) all) i (place 0 0))
+  unfolding messageAt
+  message-there h z all n i l (next, e) = rw (within, z, lt-leb (h .entries) i l) (asked-got (further (p .at)) _ (getD all i (place 0 0)) next e ∙ ap found (getD-map (further (p .at)) all i (place 0 0) (place 0 0) (omega (arith, l, n))))
+
+  message-beyond : (h : ChunkHeader) (i : ℕ) → messageCount h ≤ i → messageAt s h p i ≡ refusal valueNotAdmitted
+  unfolding messageAt
+  message-beyond h i l = by (hasEntries (h .«chunk_type»)) refl
+    where
+      by : (t : Bool) → hasEntries (h .«chunk_type») ≡ t → messageAt s h p i ≡ refusal valueNotAdmitted
+      by false e = rw (within, e)
+      by true e = let k : h .entries ≤ i = rw e at l in rw (within, e, le-leb (h .entries) i k)
+
   all-messages : (h : ChunkHeader) → (hasEntries (h .«chunk_type») ≡ true → Pieces Entry (h .entries) part) → AllMessages s h p
-  unfolding messageAt readNth
+  unfolding readNth
   all-messages h pieces = by (hasEntries (h .«chunk_type»)) refl
     where
       by : (t : Bool) → hasEntries (h .«chunk_type») ≡ t → AllMessages s h p
@@ -174,20 +218,22 @@ module _ (s : List ℕ) (p : Place) (there : EndsBy (length s) (some p)) where
             messages = [];
             as-many = rw e;
             found-at = λ i l. absurd (let z : i < 0 = rw e at l in omega (arith, z));
-            no-other = λ i l. rw (within, e);
+            no-other = message-beyond h;
             bytes = λ z. absurd (differ (sym e ∙ z));
+            parts = λ i l. absurd (let z : i < 0 = rw e at l in omega (arith, z));
+            no-part = λ i l. ap (messagePart s) (message-beyond h i l);
           }
       by true e =
           let f = finds part readEntry (λ q. digits 4 (q .len) ++ bytesAt part q) (λ q. EndsBy (length part) (some q)) (place 0 0) Entry entry (h .entries) 0 part (length part) (pieces e) whole in
+          let there-at : (i : ℕ) → i < messageCount h → messageAt s h p i ≡ found (getD (map (further (p .at)) (f .all)) i (place 0 0)) = λ i l. let k : i < h .entries = rw e at l in message-there h e (f .all) (f .as-many) i k (f .nth i k) in
           record {
             messages = map (further (p .at)) (f .all);
             as-many = length-map (f .all) (further (p .at)) ∙ (f .as-many ∙ rw e);
-            found-at = λ i l.
-                let k : i < h .entries = rw e at l in
-                let t = f .nth i k in
-                rw (within, e, lt-leb (h .entries) i k) (asked-got (further (p .at)) _ (getD (f .all) i (place 0 0)) (t .0) (t .1) ∙ ap found (getD-map (further (p .at)) (f .all) i (place 0 0) (place 0 0) (omega (arith, k, f .as-many))));
-            no-other = λ i l. let k : h .entries ≤ i = rw e at l in rw (within, e, le-leb (h .entries) i k);
+            found-at = there-at;
+            no-other = message-beyond h;
             bytes = λ _. same-entries (f .all) (f .each) ∙ f .bytes;
+            parts = λ i l. message-part s h p i _ (there-at i l);
+            no-part = λ i l. ap (messagePart s) (message-beyond h i l);
           }
 
 -- ---- Fields and frames
@@ -232,3 +278,7 @@ everything-is-found s limit f b e =
 
 pub parts-are-the-fields : PartsAreTheFields
 parts-are-the-fields s limit f e = parts-are-values s (f .content) (places-there s limit f e)
+
+pub nullable-part-is-the-field : NullablePartIsTheField
+nullable-part-is-the-field s Null = refl
+nullable-part-is-the-field s (At p) = refl

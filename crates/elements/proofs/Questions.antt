@@ -4,7 +4,7 @@ use mathlib.Core.Path.{_≡_, refl, ap, ap₂, subst}
 use mathlib.Core.Bool.{false, not}
 use mathlib.Core.List.{List, [], _∷_, map}
 use mathlib.Core.Option.{Option, none, some, Option·map}
-use Prim.Native.Nat.{ℕ, zero, suc, _+_, _≤_}
+use Prim.Native.Nat.{ℕ, _+_, _≤_}
 use native.Mathlib.Omega.{arith}
 use lib.Dec.{ltb, leb}
 use lib.ListN.{length}
@@ -17,7 +17,7 @@ use Rattle.protocol.specs.declared.chunk.ChunkHeader.{ChunkHeader}
 use Rattle.protocol.specs.declared.place.Place.{Place}
 use Rattle.rules.specs.Outcome.{Outcome, got, refused, then, repeated, mapped}
 use Rattle.rules.specs.Reading.{hasEntries, readEntry, readRow}
-use Rattle.elements.specs.Questions.{Asked, found, refusal, asked, readNth, elementAt, messageAt, partAt, placeIn}
+use Rattle.elements.specs.Questions.{Asked, found, refusal, asked, readNth, elementAt, messageAt, partAt}
 use Rattle.rules.proofs.Bounds.{FieldNumber, FieldNumbered, Bounded, bounded-repeated, bounded-row, bounded-entry}
 use Rattle.rules.proofs.Gives.{Gives, choice, check, after-number}
 use Rattle.rules.proofs.Inside.{inside-row, moved}
@@ -141,9 +141,3 @@ module _ (s : List ℕ) (p : Place) (index : ℕ) where
 
     pub message-number : (n : ℕ) → messageAt s h p index ≡ refusal n → FieldNumber n
     message-number n e = subst (Answers Within) e message-answers
-
--- One field of an element.
-pub place-inside : (n m : ℕ) (fs : List (Field Place)) → PlacesEndBy m fs → EndsBy m (placeIn n fs)
-place-inside n m [] h = tt
-place-inside zero m (f ∷ fs) h = h .0
-place-inside (suc n) m (f ∷ fs) h = place-inside n m fs (h .1)

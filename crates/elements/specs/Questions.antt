@@ -54,10 +54,10 @@ messageAt s h p index =
 abbrev pub partAt : List ℕ → Place → List ℕ
 partAt s p = cond (outside p s) [] (bytesAt s p)
 
--- The bytes of a text or byte string. A null gives an empty part.
+-- The part of a text or byte string. A null gives an empty one.
 abbrev pub octetsIn : List ℕ → Option Place → List ℕ
 octetsIn s none = []
-octetsIn s (some p) = bytesAt s p
+octetsIn s (some p) = partAt s p
 
 -- The place in the field at an index of a row of fields.
 abbrev pub placeIn : ℕ → List (Field Place) → Option Place
@@ -65,12 +65,12 @@ placeIn n [] = none
 placeIn zero (f ∷ fs) = f .octets
 placeIn (suc n) (f ∷ fs) = placeIn n fs
 
--- The bytes of the field at an index of an element. A refusal hands back an empty part.
+-- The part of the field at an index of an element. A refusal gives an empty one.
 abbrev pub fieldPart : ℕ → List ℕ → Asked (List (Field Place)) → List ℕ
 fieldPart n s (found fs) = octetsIn s (placeIn n fs)
 fieldPart n s (refusal m) = []
 
--- The bytes of a message. A refusal hands back an empty part.
+-- The part of a message. A refusal gives an empty one.
 abbrev pub messagePart : List ℕ → Asked Place → List ℕ
-messagePart s (found p) = bytesAt s p
+messagePart s (found p) = partAt s p
 messagePart s (refusal m) = []

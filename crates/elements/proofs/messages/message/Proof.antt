@@ -1,5 +1,4 @@
--- A message that is found lies within the source, so its part is its bytes.
-use Rattle.elements.proofs.Answers.{message-part}
+-- By the answer.
 use Rattle.elements.specs.Answer.{placeAnswer}
 use Rattle.elements.specs.Questions.{messagePart}
 use mathlib.Core.Path.{_∙_, sym, ap}
@@ -18,5 +17,5 @@ message-spec =
     (λ c. search needs)
     (λ c.
     let found = c .before .before in
-    message-part _ _ _ _ _ _ (c .part .ensures) (ap placeAnswer (sym (found .place .given .1)) ∙ found .before .before .message-place .ensures))
+    c .part .ensures ∙ ap (messagePart _) (ap placeAnswer (sym (found .place .given .1)) ∙ found .before .before .message-place .ensures))
     (λ c. ap (messagePart _) (ap placeAnswer (sym (c .before .enum-told .given .1)) ∙ c .before .before .before .message-place .ensures)))

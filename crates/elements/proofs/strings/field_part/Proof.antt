@@ -1,4 +1,4 @@
--- What is found lies within the source, so its part is its bytes.
+-- By the answer.
 use Rattle.elements.proofs.Answers.{element-part}
 use Rattle.elements.specs.Answer.{elementAnswer}
 use Rattle.elements.specs.Questions.{fieldPart}
@@ -19,5 +19,5 @@ field-part-spec =
     (λ c. search needs)
     (λ c.
     let found = c .before .before .before in
-    element-part _ _ _ _ _ _ _ (c .before .string-in .result) _ (c .nullable-part .ensures) (ap elementAnswer (sym (found .e .given .1)) ∙ found .before .before .element .ensures .0) (c .before .string-in .ensures))
+    element-part _ _ _ _ _ _ _ (c .before .string-in .result) _ (c .nullable-part .ensures) (c .before .string-in .ensures) (ap elementAnswer (sym (found .e .given .1)) ∙ found .before .before .element .ensures .0))
     (λ c. ap (fieldPart _ _) (ap elementAnswer (sym (c .before .enum-told .given .1)) ∙ c .before .before .before .element .ensures .0)))
