@@ -41,6 +41,17 @@ refused-as y r e = ap receivedRefusal e ∙ by y
     by (calls.refused (short n)) = refl
     by (calls.refused (unread n place)) = refl
 
+-- The frame that was read, and the slots that it was read into.
+module _ (s : List ℕ) (limit : ℕ) (r : FrameRead) (is : r ≡ Frame) (t : r ≡ told (readFrame s limit)) where
+  abbrev pub read-frame : Fields Place
+  read-frame = frame-told (readFrame s limit) (sym is ∙ t) .0
+
+  is-read : readFrame s limit ≡ rules.frame read-frame
+  is-read = sym (frame-told (readFrame s limit) (sym is ∙ t) .1)
+
+  pub its-slots : (z new : List ℕ) → new ≡ flat.slotsAfter z (readFrame s limit) → new ≡ flatFrame read-frame
+  its-slots z new h = slots-told read-frame (readFrame s limit) z new (sym is-read) h
+
 module _ (l s : List ℕ) (limit : ℕ) (old : List ℕ) where
   abbrev reply : Reply
   reply = answer l (received s limit)
@@ -70,36 +81,33 @@ module _ (l s : List ℕ) (limit : ℕ) (old : List ℕ) where
       left (rules.short needed) e = refl
       left (rules.refusal n place) e = refl
 
-  -- A frame that was read into slots.
-  module _ (r : FrameRead) (is : r ≡ Frame) (t : r ≡ told (readFrame s limit)) (z new : List ℕ) (h : new ≡ flat.slotsAfter z (readFrame s limit)) (o : Option ℕ) (l' : List ℕ) (a : o ≡ addressed s) (q : l' ≡ spent l o) where
+  -- A frame that was read.
+  module _ (r : FrameRead) (is : r ≡ Frame) (t : r ≡ told (readFrame s limit)) (o : Option ℕ) (l' : List ℕ) (a : o ≡ addressed s) (q : l' ≡ spent l o) where
     abbrev f : Fields Place
-    f = frame-told (readFrame s limit) (sym is ∙ t) .0
+    f = read-frame s limit r is t
 
     read : readFrame s limit ≡ rules.frame f
-    read = sym (frame-told (readFrame s limit) (sym is ∙ t) .1)
-
-    slots : new ≡ flatFrame f
-    slots = slots-told f (readFrame s limit) z new (sym read) h
+    read = is-read s limit r is t
 
     -- The ledger has a credit for it, or it needs none.
-    pub handed : affords l o ≡ true → Answers (answers.Reading r) l' new
-    handed h = answers-all (answers.Reading r) l' new (rw (read, addressed-id s limit f read ∙ sym a) (by o h q))
+    pub handed : (new : List ℕ) → new ≡ slotsAfter old (calls.accepted (frame f)) → affords l o ≡ true → Answers (answers.Reading r) l' new
+    handed new w h = answers-all (answers.Reading r) l' new (rw (read, addressed-id s limit f read ∙ sym a) (by o h q))
       where
         with-credit : (x : Option ℕ) → admitted x ≡ true → (answers.Reading r ≡ answerOf (answerBy number x (frame f))) × (new ≡ slotsAfter old (answerBy number x (frame f)))
-        with-credit none h = (ap answers.Reading is, slots)
+        with-credit none h = (ap answers.Reading is, w)
         with-credit (some n) h = absurd (differ h)
 
         by : (o : Option ℕ) → affords l o ≡ true → l' ≡ spent l o → (answers.Reading r ≡ answerOf (answerTo number l (actOnFrame o f))) × ((l' ≡ ledgerAfter l (actOnFrame o f)) × (new ≡ slotsAfter old (answerTo number l (actOnFrame o f))))
-        by none h q = (ap answers.Reading is, (q, slots))
-        by (some i) h q = let w = with-credit (refusal spend (entryAt l i)) h in (w .0, (q, w .1))
+        by none h q = (ap answers.Reading is, (q, w))
+        by (some i) h q = let c = with-credit (refusal spend (entryAt l i)) h in (c .0, (q, c .1))
 
     -- The ledger refuses it.
-    pub refused : (k : ℕ) → some k ≡ refusalFor l o → Answers (answers.Refused k) l' old
-    refused k p = answers-all (answers.Refused k) l' old (rw (read, addressed-id s limit f read ∙ sym a) (by o p q))
+    pub refused : (new : List ℕ) (k : ℕ) → new ≡ slotsAfter old (calls.refused (number k)) → some k ≡ refusalFor l o → Answers (answers.Refused k) l' new
+    refused new k w p = answers-all (answers.Refused k) l' new (rw (read, addressed-id s limit f read ∙ sym a) (by o p q))
       where
-        by : (o : Option ℕ) → some k ≡ refusalFor l o → l' ≡ spent l o → (answers.Refused k ≡ answerOf (answerTo number l (actOnFrame o f))) × ((l' ≡ ledgerAfter l (actOnFrame o f)) × (old ≡ slotsAfter old (answerTo number l (actOnFrame o f))))
+        by : (o : Option ℕ) → some k ≡ refusalFor l o → l' ≡ spent l o → (answers.Refused k ≡ answerOf (answerTo number l (actOnFrame o f))) × ((l' ≡ ledgerAfter l (actOnFrame o f)) × (new ≡ slotsAfter old (answerTo number l (actOnFrame o f))))
         by none p q = absurd (differ (ap admitted p))
-        by (some i) p q = (ap (λ (x : Option ℕ). answerOf (answerBy number x (frame f))) p, (q, ap (λ (x : Option ℕ). slotsAfter old (answerBy number x (frame f))) p))
+        by (some i) p q = (ap (λ (x : Option ℕ). answerOf (answerBy number x (frame f))) p, (q, w ∙ ap (λ (x : Option ℕ). slotsAfter old (answerBy number x (frame f))) p))
 
 -- What the ledger does not refuse, it has a credit for.
 pub afforded : (l : List ℕ) (o : Option ℕ) (t : Bool) → t ≡ affords l o → t ≡ false → none ≡ refusalFor l o → ⊥
