@@ -52,6 +52,18 @@ module _ (s : List ℕ) (limit : ℕ) (r : FrameRead) (is : r ≡ Frame) (t : r 
   pub its-slots : (z new : List ℕ) → new ≡ flat.slotsAfter z (readFrame s limit) → new ≡ flatFrame read-frame
   its-slots z new h = slots-told read-frame (readFrame s limit) z new (sym is-read) h
 
+-- A refusal is not told of a frame, and leaves the slots that were lent to it.
+not-told : (r : FrameRead) (f : Fields Place) → OneOf (1 ∷ 2 ∷ []) (tagOf the-type r) → r ≡ told (rules.frame f) → ⊥
+not-told r f k e = miss (1 ∷ 2 ∷ []) 0 tt (subst (λ (x : FrameRead). OneOf (1 ∷ 2 ∷ []) (tagOf the-type x)) e k)
+
+pub untouched : (s : List ℕ) (limit : ℕ) (r : FrameRead) (z new : List ℕ) → r ≡ told (readFrame s limit) → new ≡ flat.slotsAfter z (readFrame s limit) → OneOf (1 ∷ 2 ∷ []) (tagOf the-type r) → new ≡ z
+untouched s limit r z new e h k = h ∙ by (readFrame s limit) e
+  where
+    by : (x : rules.Reading) → r ≡ told x → flat.slotsAfter z x ≡ z
+    by (rules.frame f) e = absurd (not-told r f k e)
+    by (rules.short needed) e = refl
+    by (rules.refusal n place) e = refl
+
 module _ (l s : List ℕ) (limit : ℕ) (old : List ℕ) where
   abbrev reply : Reply
   reply = answer l (received s limit)
@@ -64,22 +76,13 @@ module _ (l s : List ℕ) (limit : ℕ) (old : List ℕ) where
   answers-all r l' new a = (a .0, (a .1 .0, (a .1 .1, refused-as reply r (a .0))))
 
   -- A refusal of reading.
-  pub no-frame : (r : FrameRead) → r ≡ told (readFrame s limit) → OneOf (1 ∷ 2 ∷ []) (tagOf the-type r) → Answers (answers.Reading r) l old
-  no-frame r e k = answers-all (answers.Reading r) l old (by (readFrame s limit) e)
+  pub no-frame : (r : FrameRead) (new : List ℕ) → r ≡ told (readFrame s limit) → OneOf (1 ∷ 2 ∷ []) (tagOf the-type r) → new ≡ old → Answers (answers.Reading r) l new
+  no-frame r new e k w = answers-all (answers.Reading r) l new (by (readFrame s limit) e)
     where
-      by : (x : rules.Reading) → r ≡ told x → (answers.Reading r ≡ answerOf (answerTo number l (actOnReading x))) × ((l ≡ ledgerAfter l (actOnReading x)) × (old ≡ slotsAfter old (answerTo number l (actOnReading x))))
-      by (rules.frame f) e = absurd (miss (1 ∷ 2 ∷ []) 0 tt (subst (λ (x : FrameRead). OneOf (1 ∷ 2 ∷ []) (tagOf the-type x)) e k))
-      by (rules.short needed) e = (ap answers.Reading e, (refl, refl))
-      by (rules.refusal n place) e = (ap answers.Reading e, (refl, refl))
-
-  -- Slots that such a reading left.
-  pub not-read : (r : FrameRead) (new : List ℕ) → r ≡ told (readFrame s limit) → new ≡ flat.slotsAfter old (readFrame s limit) → OneOf (1 ∷ 2 ∷ []) (tagOf the-type r) → Answers (answers.Reading r) l new
-  not-read r new e h k = let a = no-frame r e k in (a .0, (a .1 .0, (h ∙ left (readFrame s limit) e ∙ a .1 .1 .0, a .1 .1 .1)))
-    where
-      left : (x : rules.Reading) → r ≡ told x → flat.slotsAfter old x ≡ old
-      left (rules.frame f) e = absurd (miss (1 ∷ 2 ∷ []) 0 tt (subst (λ (x : FrameRead). OneOf (1 ∷ 2 ∷ []) (tagOf the-type x)) e k))
-      left (rules.short needed) e = refl
-      left (rules.refusal n place) e = refl
+      by : (x : rules.Reading) → r ≡ told x → (answers.Reading r ≡ answerOf (answerTo number l (actOnReading x))) × ((l ≡ ledgerAfter l (actOnReading x)) × (new ≡ slotsAfter old (answerTo number l (actOnReading x))))
+      by (rules.frame f) e = absurd (not-told r f k e)
+      by (rules.short needed) e = (ap answers.Reading e, (refl, w))
+      by (rules.refusal n place) e = (ap answers.Reading e, (refl, w))
 
   -- A frame that was read.
   module _ (r : FrameRead) (is : r ≡ Frame) (t : r ≡ told (readFrame s limit)) (o : Option ℕ) (l' : List ℕ) (a : o ≡ addressed s) (q : l' ≡ spent l o) where

@@ -4,7 +4,7 @@ use borrow.Author.Needs.{needs}
 use denote.Ref.{now}
 use Rattle.ledger.specs.Answers.{numberOf}
 use Rattle.receiving.specs.Subscription.{idOf}
-use Rattle.receiving.proofs.Answers.{no-frame, not-read, its-slots, handed, refused, afforded}
+use Rattle.receiving.proofs.Answers.{its-slots, untouched, no-frame, handed, refused, afforded}
 use Rattle.receiving.proofs.receiving.receive.Statement.{statement}
 use Rattle.receiving.proofs.receiving.receive.Tie as tie
 
@@ -24,7 +24,9 @@ receive-spec =
     let slots = its-slots _ _ _ (told .enum-told .given .1) (read .read .ensures .0) _ _ (read .read .ensures .1 .0) in
     handed _ _ _ _ _ (told .enum-told .given .1) (read .read .ensures .0) _ _ (credit .before .before .before .subscription-of .ensures) (c .spend .ensures .1)
     _ (cc (slots)) (sym (credit .before .affords .ensures) ∙ credit .if1 .taken))
-    (λ c. not-read _ _ _ _ _ _ (c .before .read .ensures .0) (c .before .read .ensures .1 .0) (c .match .keys2))
+    (λ c.
+    let slots = untouched _ _ _ _ _ (c .before .read .ensures .0) (c .before .read .ensures .1 .0) (c .match .keys2) in
+    no-frame _ _ _ _ _ _ (c .before .read .ensures .0) (c .match .keys2) (cc (slots)))
     (λ c κs. search needs)
     (λ c. search needs)
     (λ c κs. search needs)
@@ -42,4 +44,4 @@ receive-spec =
     let credit = spend .before .before .before .before .before .before in
     let subscription = credit .before .before .before in
     absurd (afforded (now (subscription .before .before .args .credits)) (idOf (subscription .subscription-of .result)) _ (credit .before .affords .ensures) (credit .if1 .left) (sym (ap numberOf (c .enum-told3 .given .1)) ∙ spend .spend2 .ensures .0)))
-    (λ c. no-frame _ _ _ _ _ (c .before .read2 .ensures .0) (c .match2 .keys2)))
+    (λ c. no-frame _ _ _ _ _ _ (c .before .read2 .ensures .0) (c .match2 .keys2) refl))
