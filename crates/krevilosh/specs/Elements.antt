@@ -39,7 +39,8 @@ pub record EveryElement (s : List ℕ) (k : Element) (count : ℕ) (p : Place) :
   pub found-at : (i : ℕ) → i < count → askElement (shapeOf (shapeNumber k)) s count p i ≡ found (padded 8 (flatRow (elementRow k) (getD (all .elements) i [])))
   pub no-other : (i : ℕ) → count ≤ i → askElement (shapeOf (shapeNumber k)) s count p i ≡ refusal valueNotAdmitted
 
--- Every list has a shape, and by it every element is found: of a field that is a list, and of the lists in its elements.
+-- Every list has a shape, and by it every element is found: of a field that is a list, whose count and place are its three slots, and
+-- of the lists in its elements.
 unfoldable mutual
   pub FieldAsked : List ℕ → Kind → Field Place → Type 0
   FieldAsked s (unsigned n most) f = Unit
