@@ -114,8 +114,9 @@ uint64_t krevilosh_write(const uint64_t frame[24], const uint8_t *source, size_t
  * count, place and length are the list's three slots.
  * Refusals: 10 for another shape, 6 for a place outside the source, 10 for an index at or above the count, then those of
  * the elements up to and including the one asked for, as when read.
- * In a frame that was read every index below the count is found: no element is missing before the first refusal
- * (theorem EverythingIsFound, crates/elements/specs/Found.antt).
+ * In a frame that was read, asked with the shape of the list, every index below the count is found and every other is
+ * refused with 10: a host that stops at the first refusal misses no element (theorem EveryElementIsFound,
+ * crates/krevilosh/specs/Elements.antt).
  */
 uint64_t krevilosh_element(uint8_t shape, const uint8_t *source, size_t source_len, uint64_t count, uint64_t place,
                            uint64_t length, uint64_t index, uint64_t element[8]);

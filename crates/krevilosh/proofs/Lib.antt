@@ -3,4 +3,5 @@ mod Answers
 mod Lengths
 mod Questions
 pub mod HostNumbers
+pub mod Elements
 pub mod Messages

@@ -2,5 +2,6 @@
 pub mod Answer
 pub mod Numbers
 pub mod Asked
+pub mod Elements
 pub mod Messages
 pub mod Shapes

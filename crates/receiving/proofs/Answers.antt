@@ -41,6 +41,29 @@ refused-as y r e = ap receivedRefusal e ∙ by y
     by (calls.refused (short n)) = refl
     by (calls.refused (unread n place)) = refl
 
+-- The frame that was read, and the slots that it was read into.
+module _ (s : List ℕ) (limit : ℕ) (r : FrameRead) (is : r ≡ Frame) (t : r ≡ told (readFrame s limit)) where
+  abbrev pub read-frame : Fields Place
+  read-frame = frame-told (readFrame s limit) (sym is ∙ t) .0
+
+  is-read : readFrame s limit ≡ rules.frame read-frame
+  is-read = sym (frame-told (readFrame s limit) (sym is ∙ t) .1)
+
+  pub its-slots : (z new : List ℕ) → new ≡ flat.slotsAfter z (readFrame s limit) → new ≡ flatFrame read-frame
+  its-slots z new h = slots-told read-frame (readFrame s limit) z new (sym is-read) h
+
+-- A refusal is not told of a frame, and leaves the slots that were lent to it.
+not-told : (r : FrameRead) (f : Fields Place) → OneOf (1 ∷ 2 ∷ []) (tagOf the-type r) → r ≡ told (rules.frame f) → ⊥
+not-told r f k e = miss (1 ∷ 2 ∷ []) 0 tt (subst (λ (x : FrameRead). OneOf (1 ∷ 2 ∷ []) (tagOf the-type x)) e k)
+
+pub untouched : (s : List ℕ) (limit : ℕ) (r : FrameRead) (z new : List ℕ) → r ≡ told (readFrame s limit) → new ≡ flat.slotsAfter z (readFrame s limit) → OneOf (1 ∷ 2 ∷ []) (tagOf the-type r) → new ≡ z
+untouched s limit r z new e h k = h ∙ by (readFrame s limit) e
+  where
+    by : (x : rules.Reading) → r ≡ told x → flat.slotsAfter z x ≡ z
+    by (rules.frame f) e = absurd (not-told r f k e)
+    by (rules.short needed) e = refl
+    by (rules.refusal n place) e = refl
+
 module _ (l s : List ℕ) (limit : ℕ) (old : List ℕ) where
   abbrev reply : Reply
   reply = answer l (received s limit)
@@ -53,53 +76,41 @@ module _ (l s : List ℕ) (limit : ℕ) (old : List ℕ) where
   answers-all r l' new a = (a .0, (a .1 .0, (a .1 .1, refused-as reply r (a .0))))
 
   -- A refusal of reading.
-  pub no-frame : (r : FrameRead) → r ≡ told (readFrame s limit) → OneOf (1 ∷ 2 ∷ []) (tagOf the-type r) → Answers (answers.Reading r) l old
-  no-frame r e k = answers-all (answers.Reading r) l old (by (readFrame s limit) e)
+  pub no-frame : (r : FrameRead) (new : List ℕ) → r ≡ told (readFrame s limit) → OneOf (1 ∷ 2 ∷ []) (tagOf the-type r) → new ≡ old → Answers (answers.Reading r) l new
+  no-frame r new e k w = answers-all (answers.Reading r) l new (by (readFrame s limit) e)
     where
-      by : (x : rules.Reading) → r ≡ told x → (answers.Reading r ≡ answerOf (answerTo number l (actOnReading x))) × ((l ≡ ledgerAfter l (actOnReading x)) × (old ≡ slotsAfter old (answerTo number l (actOnReading x))))
-      by (rules.frame f) e = absurd (miss (1 ∷ 2 ∷ []) 0 tt (subst (λ (x : FrameRead). OneOf (1 ∷ 2 ∷ []) (tagOf the-type x)) e k))
-      by (rules.short needed) e = (ap answers.Reading e, (refl, refl))
-      by (rules.refusal n place) e = (ap answers.Reading e, (refl, refl))
+      by : (x : rules.Reading) → r ≡ told x → (answers.Reading r ≡ answerOf (answerTo number l (actOnReading x))) × ((l ≡ ledgerAfter l (actOnReading x)) × (new ≡ slotsAfter old (answerTo number l (actOnReading x))))
+      by (rules.frame f) e = absurd (not-told r f k e)
+      by (rules.short needed) e = (ap answers.Reading e, (refl, w))
+      by (rules.refusal n place) e = (ap answers.Reading e, (refl, w))
 
-  -- Slots that such a reading left.
-  pub not-read : (r : FrameRead) (new : List ℕ) → r ≡ told (readFrame s limit) → new ≡ flat.slotsAfter old (readFrame s limit) → OneOf (1 ∷ 2 ∷ []) (tagOf the-type r) → Answers (answers.Reading r) l new
-  not-read r new e h k = let a = no-frame r e k in (a .0, (a .1 .0, (h ∙ left (readFrame s limit) e ∙ a .1 .1 .0, a .1 .1 .1)))
-    where
-      left : (x : rules.Reading) → r ≡ told x → flat.slotsAfter old x ≡ old
-      left (rules.frame f) e = absurd (miss (1 ∷ 2 ∷ []) 0 tt (subst (λ (x : FrameRead). OneOf (1 ∷ 2 ∷ []) (tagOf the-type x)) e k))
-      left (rules.short needed) e = refl
-      left (rules.refusal n place) e = refl
-
-  -- A frame that was read into slots.
-  module _ (r : FrameRead) (is : r ≡ Frame) (t : r ≡ told (readFrame s limit)) (z new : List ℕ) (h : new ≡ flat.slotsAfter z (readFrame s limit)) (o : Option ℕ) (l' : List ℕ) (a : o ≡ addressed s) (q : l' ≡ spent l o) where
+  -- A frame that was read.
+  module _ (r : FrameRead) (is : r ≡ Frame) (t : r ≡ told (readFrame s limit)) (o : Option ℕ) (l' : List ℕ) (a : o ≡ addressed s) (q : l' ≡ spent l o) where
     abbrev f : Fields Place
-    f = frame-told (readFrame s limit) (sym is ∙ t) .0
+    f = read-frame s limit r is t
 
     read : readFrame s limit ≡ rules.frame f
-    read = sym (frame-told (readFrame s limit) (sym is ∙ t) .1)
-
-    slots : new ≡ flatFrame f
-    slots = slots-told f (readFrame s limit) z new (sym read) h
+    read = is-read s limit r is t
 
     -- The ledger has a credit for it, or it needs none.
-    pub handed : affords l o ≡ true → Answers (answers.Reading r) l' new
-    handed h = answers-all (answers.Reading r) l' new (rw (read, addressed-id s limit f read ∙ sym a) (by o h q))
+    pub handed : (new : List ℕ) → new ≡ slotsAfter old (calls.accepted (frame f)) → affords l o ≡ true → Answers (answers.Reading r) l' new
+    handed new w h = answers-all (answers.Reading r) l' new (rw (read, addressed-id s limit f read ∙ sym a) (by o h q))
       where
         with-credit : (x : Option ℕ) → admitted x ≡ true → (answers.Reading r ≡ answerOf (answerBy number x (frame f))) × (new ≡ slotsAfter old (answerBy number x (frame f)))
-        with-credit none h = (ap answers.Reading is, slots)
+        with-credit none h = (ap answers.Reading is, w)
         with-credit (some n) h = absurd (differ h)
 
         by : (o : Option ℕ) → affords l o ≡ true → l' ≡ spent l o → (answers.Reading r ≡ answerOf (answerTo number l (actOnFrame o f))) × ((l' ≡ ledgerAfter l (actOnFrame o f)) × (new ≡ slotsAfter old (answerTo number l (actOnFrame o f))))
-        by none h q = (ap answers.Reading is, (q, slots))
-        by (some i) h q = let w = with-credit (refusal spend (entryAt l i)) h in (w .0, (q, w .1))
+        by none h q = (ap answers.Reading is, (q, w))
+        by (some i) h q = let c = with-credit (refusal spend (entryAt l i)) h in (c .0, (q, c .1))
 
     -- The ledger refuses it.
-    pub refused : (k : ℕ) → some k ≡ refusalFor l o → Answers (answers.Refused k) l' old
-    refused k p = answers-all (answers.Refused k) l' old (rw (read, addressed-id s limit f read ∙ sym a) (by o p q))
+    pub refused : (new : List ℕ) (k : ℕ) → new ≡ slotsAfter old (calls.refused (number k)) → some k ≡ refusalFor l o → Answers (answers.Refused k) l' new
+    refused new k w p = answers-all (answers.Refused k) l' new (rw (read, addressed-id s limit f read ∙ sym a) (by o p q))
       where
-        by : (o : Option ℕ) → some k ≡ refusalFor l o → l' ≡ spent l o → (answers.Refused k ≡ answerOf (answerTo number l (actOnFrame o f))) × ((l' ≡ ledgerAfter l (actOnFrame o f)) × (old ≡ slotsAfter old (answerTo number l (actOnFrame o f))))
+        by : (o : Option ℕ) → some k ≡ refusalFor l o → l' ≡ spent l o → (answers.Refused k ≡ answerOf (answerTo number l (actOnFrame o f))) × ((l' ≡ ledgerAfter l (actOnFrame o f)) × (new ≡ slotsAfter old (answerTo number l (actOnFrame o f))))
         by none p q = absurd (differ (ap admitted p))
-        by (some i) p q = (ap (λ (x : Option ℕ). answerOf (answerBy number x (frame f))) p, (q, ap (λ (x : Option ℕ). slotsAfter old (answerBy number x (frame f))) p))
+        by (some i) p q = (ap (λ (x : Option ℕ). answerOf (answerBy number x (frame f))) p, (q, w ∙ ap (λ (x : Option ℕ). slotsAfter old (answerBy number x (frame f))) p))
 
 -- What the ledger does not refuse, it has a credit for.
 pub afforded : (l : List ℕ) (o : Option ℕ) (t : Bool) → t ≡ affords l o → t ≡ false → none ≡ refusalFor l o → ⊥

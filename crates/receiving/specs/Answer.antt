@@ -22,8 +22,10 @@ abbrev pub receivedRefusal : Received → Option Refusal
 receivedRefusal (Reading r) = refusalOf r
 receivedRefusal (Refused n) = some (numbered n)
 
--- A refusal leaves the slots as they were.
+-- A refusal, by the ledger or by reading, leaves the slots as they were.
 abbrev pub slotsAfter : List ℕ → Reply → List ℕ
 slotsAfter old (accepted nothing) = old
 slotsAfter old (accepted (frame f)) = flatFrame f
-slotsAfter old (refused r) = old
+slotsAfter old (refused (number n)) = old
+slotsAfter old (refused (short needed)) = old
+slotsAfter old (refused (unread n place)) = old

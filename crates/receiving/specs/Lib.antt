@@ -1,3 +1,4 @@
--- What receiving answers, and the subscription that a frame is for.
+-- What receiving answers, what the slots hold, and the subscription that a frame is for.
 pub mod Answer
+pub mod Slots
 pub mod Subscription
