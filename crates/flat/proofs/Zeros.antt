@@ -1,7 +1,7 @@
 -- A null and an offset specification without a value are put with 0 beside them, a length that was read is never the one of a
 -- null, and what is left is filled up with 0. Assumes nothing.
-use mathlib.Core.Path.{_≡_, refl, sym, ap, subst}
-use mathlib.Core.Bool.{Bool, true, false, cond}
+use mathlib.Core.Path.{_≡_, refl, sym, subst}
+use mathlib.Core.Bool.{Bool, true, false}
 use mathlib.Core.List.{List, [], _∷_, _++_, append-assoc}
 use mathlib.Core.Option.{Option, none, some}
 use Prim.Native.Nat.{ℕ, zero, suc, _-_, _+_, _<_}
@@ -9,7 +9,7 @@ use native.Mathlib.Omega.{arith}
 use lib.ListN.{length, drop, replicate}
 use borrow.Author.Tests.{ne-eqb}
 use Rattle.wire.proofs.Widths.{integers}
-use Rattle.protocol.specs.Fields.{Field, Fields, EndsBy, PlacesEndBy}
+use Rattle.protocol.specs.Fields.{Field, EndsBy, PlacesEndBy}
 use Rattle.protocol.specs.Frames.{OfRow}
 use Rattle.protocol.specs.Kinds.{Kind, unsigned, signed, string, specification, list, chunk, Row, end, _·_}
 use Rattle.protocol.specs.Table.{rowOf}

@@ -34,7 +34,7 @@ needs-fit (Refused n place) h = tt
 pub needed-fits : (s : List ℕ) (limit : ℕ) (r : FrameRead) → Bytes s → refusalOf r ≡ readingRefusal (readFrame s limit) → NeededFits (refusalOf r)
 needed-fits s limit r b e = needs-fit r (subst (IfRefused ReadingNumber) (sym e) (numbers .reading s limit b))
 
--- A frame of the ledger's own refusals needs no bytes.
+-- A refusal of the ledger's own needs no bytes.
 of-either : (r : FrameRead) → IfRefused (λ x. ReadingNumber x ⊎ LedgerNumber (x .number)) (refusalOf r) → NeededFits (refusalOf r)
 of-either Frame h = tt
 of-either (Short n) (inl h) = needs-fit (Short n) h

@@ -11,7 +11,7 @@ use Rattle.chunk_reader.specs.declared.spot.Found.the-variants.{Ready, Message,
 abbrev pub answer : ℕ → ℕ → ℕ
 answer number value = number + 256 * value
 
--- A refusal's number; 0 where there is none.
+-- A number; 0 where there is none.
 abbrev pub orZero : Option ℕ → ℕ
 orZero none = 0
 orZero (some n) = n
