@@ -1,10 +1,7 @@
-// Typed frames: their slots, reading and writing.
-mod flattening;
+// Typed frames: reading and writing, by way of their slots.
 mod reading;
-mod shapes;
 mod writing;
 
-pub use flattening::frame_slots;
 pub use reading::Reading;
 pub use reading::read;
 pub use writing::write;
