@@ -23,10 +23,10 @@ use Rattle.rules.specs.Grammar.{ValidFrame}
 use Rattle.rules.specs.Reading.{hasEntries, readNumber, readEntry}
 use Rattle.rules.proofs.Parts.{length-part, drop-take}
 use Rattle.rules.proofs.Sound.{sound}
-use Rattle.elements.specs.Found.{messageCount, AllMessages, FieldFound, RowFound}
-use Rattle.elements.specs.Questions.{found, asked, readNth, messageAt}
-use Rattle.elements.proofs.Found.{everything-is-found}
-use Rattle.flat.proofs.Fields.{plain-table, of-row}
+use Rattle.questions.specs.Found.{messageCount, AllMessages, FieldFound, RowFound}
+use Rattle.questions.specs.Questions.{found, asked, readNth, messageAt}
+use Rattle.questions.proofs.Found.{everything-is-found}
+use Rattle.slots.proofs.Fields.{plain-table, of-row}
 use Rattle.chunk_reader.specs.Asked.{AskedAsRead, MessagesAreTheReaders}
 use Rattle.chunk_reader.specs.Messages.{withNext, messagesAt}
 use Rattle.chunk_reader.specs.SlotRun.{messageNo, chunkAt}

@@ -27,7 +27,7 @@ use Rattle.rules.proofs.Gives.{Gives, check, after, after-number, also, weaker,
 use Rattle.rules.proofs.Listed.{itself}
 use Rattle.rules.proofs.Parts.{Part, drop-take, length-part, starting, bytes-part}
 use Rattle.rules.proofs.SoundChunks.{sound-chunk}
-use Rattle.flat.specs.Flat.{flatFrame, padded}
+use Rattle.slots.specs.Flat.{flatFrame, padded}
 use Rattle.chunk_reader.specs.Run.{Good, WellFormed}
 use Rattle.chunk_reader.specs.SlotRun.{chunkAt, ChunkThere, ChunkOfADeliver}
 use Rattle.chunk_reader.proofs.SlotRuns.{slot-run}

@@ -19,7 +19,7 @@ use Rattle.rules.specs.Outcome.{Outcome, got, refused, then, repeated}
 use Rattle.rules.specs.Reading.{headerAt, hasEntries, isChunkType, readEntry, readEntries, readData, readChunk}
 use Rattle.rules.proofs.Gives.{Gives, check, choice, after, after-number, weaker}
 use Rattle.rules.proofs.Parts.{Part, nothing, joined, there, number-part, length-part}
-use Rattle.elements.specs.Found.{messageCount, encodeEntries}
+use Rattle.questions.specs.Found.{messageCount, encodeEntries}
 use Rattle.chunk_reader.specs.Messages.{withNext, messagesAt, messagesOf, messages, messageOrDone, answerIn, answer, isRefused, messageIn}
 use Rattle.chunk_reader.specs.Reader.{spot, startedFrom, started, behindEntry, advanced}
 use Rattle.chunk_reader.specs.Run.{asked, says, Good, WellFormed, EachAnswer, EachMessage, EachPart, DoneForEver, AsManyAsTheHeaderSays, NothingElse, RefusedForEver}

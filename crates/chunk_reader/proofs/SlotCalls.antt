@@ -8,10 +8,10 @@ use types.Run.{OneOf, miss}
 use denote.Enum.Declared.{tagOf}
 use Rattle.protocol.specs.Fields.{Field}
 use Rattle.protocol.specs.declared.place.Place.{Place}
-use Rattle.elements.specs.Questions.{asked, numberOf}
+use Rattle.questions.specs.Questions.{asked, numberOf}
 use Rattle.rules.specs.Outcome.{Outcome, got, refused}
 use Rattle.rules.specs.Reading.{readChunk}
-use Rattle.flat.specs.Flat.{flatPlace, padded}
+use Rattle.slots.specs.Flat.{flatPlace, padded}
 use Rattle.chunk_reader.specs.Reader.{spot, startedFrom, started, advanced}
 use Rattle.chunk_reader.specs.Slots.{openNumber, openedFrom, readerOpened, nextSpot, filledIf, movedTo, readerMoved, entryFilled}
 use Rattle.chunk_reader.specs.declared.spot.Found.{Found}

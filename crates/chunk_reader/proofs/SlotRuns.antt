@@ -14,13 +14,13 @@ use Rattle.wire.specs.Integers.{bigEndian}
 use Rattle.protocol.specs.Fields.{Field, place, outside}
 use Rattle.protocol.specs.Kinds as K
 use Rattle.protocol.specs.declared.place.Place.{Place}
-use Rattle.elements.specs.Questions.{asked, numberOf}
+use Rattle.questions.specs.Questions.{asked, numberOf}
 use Rattle.rules.specs.Outcome.{Outcome, got, refused, then, repeated}
 use Rattle.rules.specs.Reading.{headerAt, readEntry, readChunk, readField}
 use Rattle.rules.proofs.Bounds.{Numbered, numbered-entry, numbered-field}
 use Rattle.rules.proofs.Gives.{Gives, check, after-number}
-use Rattle.flat.specs.Flat.{padded}
-use Rattle.elements.specs.Found.{messageCount}
+use Rattle.slots.specs.Flat.{padded}
+use Rattle.questions.specs.Found.{messageCount}
 use Rattle.chunk_reader.specs.Messages.{withNext, messagesAt}
 use Rattle.chunk_reader.specs.Reader.{spot, behindEntry, advanced}
 use Rattle.chunk_reader.specs.Run.{Good, WellFormed}

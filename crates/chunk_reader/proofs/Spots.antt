@@ -21,7 +21,7 @@ use Rattle.protocol.specs.Refusals.{fieldCut}
 use Rattle.protocol.specs.declared.chunk.Chunk.{Chunk}
 use Rattle.protocol.specs.declared.chunk.ChunkHeader.{ChunkHeader}
 use Rattle.protocol.specs.declared.place.Place.{Place}
-use Rattle.elements.specs.Questions.{partAt}
+use Rattle.questions.specs.Questions.{partAt}
 use Rattle.rules.specs.Outcome.{Outcome, got, refused, then, refuseIf}
 use Rattle.rules.specs.Reading.{headerAt, hasEntries, readData, readEntry, readChunk, readField}
 use Rattle.rules.proofs.Bounds.{Numbered, numbered-entry, numbered-field}
@@ -29,7 +29,7 @@ use Rattle.fields.specs.Cursor.{cursor, from, landed, foundOr, moved, blank, Re
 use Rattle.fields.specs.declared.cursor.Cursor.{Cursor}
 use Rattle.fields.proofs.Landing.{fresh}
 use Rattle.chunks.proofs.Entries.{EntryAt}
-use Rattle.elements.specs.Found.{messageCount}
+use Rattle.questions.specs.Found.{messageCount}
 use Rattle.chunk_reader.specs.Messages.{isRefused, placeIn, messageIn}
 use Rattle.chunk_reader.specs.Reader.{spot, startedFrom, started, behindEntry, advanced}
 use Rattle.chunk_reader.specs.declared.spot.Found.{Found}

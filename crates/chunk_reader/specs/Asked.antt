@@ -9,8 +9,8 @@ use Rattle.protocol.specs.Fields as F
 use Rattle.protocol.specs.declared.chunk.ChunkHeader.{ChunkHeader}
 use Rattle.protocol.specs.declared.place.Place.{Place}
 use Rattle.rules.specs.Reading.{headerAt, frame, readFrame}
-use Rattle.elements.specs.Found.{messageCount}
-use Rattle.elements.specs.Questions.{found, messageAt}
+use Rattle.questions.specs.Found.{messageCount}
+use Rattle.questions.specs.Questions.{found, messageAt}
 use Rattle.chunk_reader.specs.Messages.{messagesOf}
 use Rattle.chunk_reader.specs.Run.{WellFormed}
 use Rattle.chunk_reader.specs.SlotRun.{messageNo, chunkAt}

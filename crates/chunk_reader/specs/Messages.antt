@@ -4,8 +4,8 @@ use mathlib.Core.List.{List, [], _∷_, map}
 use Prim.Native.Nat.{ℕ, zero, suc}
 use Rattle.protocol.specs.Fields.{Field, place, bytesAt}
 use Rattle.protocol.specs.declared.place.Place.{Place}
-use Rattle.elements.specs.Found.{messageCount}
-use Rattle.elements.specs.Questions.{partAt}
+use Rattle.questions.specs.Found.{messageCount}
+use Rattle.questions.specs.Questions.{partAt}
 use Rattle.rules.specs.Outcome.{Outcome, got, refused}
 use Rattle.rules.specs.Reading.{headerAt, readEntry, readChunk}
 use Rattle.chunk_reader.specs.declared.spot.Found.{Found}

@@ -8,7 +8,7 @@ use Rattle.protocol.specs.Fields.{Field}
 use Rattle.protocol.specs.declared.place.Place.{Place}
 use Rattle.rules.specs.Outcome.{Outcome, got, refused}
 use Rattle.rules.specs.Reading.{headerAt, readEntry, readChunk}
-use Rattle.elements.specs.Found.{messageCount}
+use Rattle.questions.specs.Found.{messageCount}
 use Rattle.chunk_reader.specs.Messages.{isRefused}
 use Rattle.chunk_reader.specs.declared.reader.ChunkReader.{ChunkReader}
 use Rattle.chunk_reader.specs.declared.spot.Found.{Found}

@@ -9,7 +9,7 @@ use Rattle.wire.specs.Integers.{Bytes}
 use Rattle.protocol.specs.Fields.{place}
 use Rattle.rules.specs.Outcome.{Outcome, got, refused}
 use Rattle.rules.specs.Reading.{headerAt, readChunk}
-use Rattle.elements.specs.Found.{messageCount, encodeEntries}
+use Rattle.questions.specs.Found.{messageCount, encodeEntries}
 use Rattle.chunk_reader.specs.Messages.{messagesOf, messages, messageIn, answer}
 use Rattle.chunk_reader.specs.Reader.{newReader, nextReader}
 use Rattle.chunk_reader.specs.declared.reader.ChunkReader.{ChunkReader}

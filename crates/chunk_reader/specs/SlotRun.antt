@@ -9,7 +9,7 @@ use Rattle.protocol.specs.Fields.{Fields, place, outside}
 use Rattle.protocol.specs.declared.place.Place.{Place}
 use Rattle.rules.specs.Outcome.{got, refused}
 use Rattle.rules.specs.Reading.{readEntry, readChunk, frame, readFrame}
-use Rattle.flat.specs.Flat.{flatFrame}
+use Rattle.slots.specs.Flat.{flatFrame}
 use Rattle.chunk_reader.specs.Messages.{messagesOf}
 use Rattle.chunk_reader.specs.Run.{WellFormed}
 use Rattle.chunk_reader.specs.Slots.{openNumber, readerOpened, nextFound, readerAfter, entryAfter}

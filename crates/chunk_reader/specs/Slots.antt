@@ -6,11 +6,11 @@ use Prim.Native.Nat.{ℕ}
 use lib.ListN.{getD, set}
 use Rattle.protocol.specs.Fields.{Field}
 use Rattle.protocol.specs.declared.place.Place.{Place}
-use Rattle.elements.specs.Questions.{asked, numberOf}
+use Rattle.questions.specs.Questions.{asked, numberOf}
 use Rattle.rules.specs.Outcome.{Outcome, got, refused}
 use Rattle.rules.specs.Reading.{headerAt, readChunk}
-use Rattle.flat.specs.Flat.{flatPlace, padded}
-use Rattle.elements.specs.Found.{messageCount}
+use Rattle.slots.specs.Flat.{flatPlace, padded}
+use Rattle.questions.specs.Found.{messageCount}
 use Rattle.chunk_reader.specs.Reader.{spot, advanced}
 use Rattle.chunk_reader.specs.declared.spot.Found.{Found}
 use Rattle.chunk_reader.specs.declared.spot.Found.the-variants.{Ready, Message, Done, Refused}

@@ -1,7 +1,7 @@
 // The chunk reader (01 "Chunks"): made of a chunk's bytes, it gives the messages in order, each once, and then says it
 // is done.
 mod reader;
-mod slots;
+mod slot_reader;
 mod spot;
 
 pub use reader::ChunkReader;
@@ -10,8 +10,8 @@ pub use reader::message;
 pub use reader::new;
 pub use reader::next;
 pub use reader::nth;
-pub use slots::next_entry;
-pub use slots::open_chunk;
+pub use slot_reader::next_entry;
+pub use slot_reader::open_chunk;
 pub use spot::Found;
 pub use spot::Spot;
 pub use spot::advance;

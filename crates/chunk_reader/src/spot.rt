@@ -97,7 +97,7 @@ pub fn part<'a>(s: &'a [u8], p: Spot) -> &'a [u8]
     ensures { λ m. ⌜ now m ≡ messageIn (now (s .entry)) (p .found) ⌝ }
 {
     let found = p.found;
-    elements::part(s, place_in(found))
+    questions::part(s, place_in(found))
 }
 
 // Types 1 and 2 stay unopened.

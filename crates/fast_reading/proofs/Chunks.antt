@@ -14,7 +14,7 @@ use Rattle.wire.proofs.Widths.{integers}
 use Rattle.rules.specs.Outcome.{Outcome, got, refused, then, refuseIf, repeated}
 use Rattle.rules.specs.Reading.{headerAt, readEntry, readEntries, readData, readChunk}
 use Rattle.fields.specs.Ends.{endOf}
-use Rattle.flat.specs.Flat.{bits, flatHeader}
+use Rattle.slots.specs.Flat.{bits, flatHeader}
 use Rattle.fast_reading.specs.Chunk.{OpenChunk, OpenIf}
 
 module _ (s : List ℕ) (at : ℕ) where

@@ -28,7 +28,7 @@ use Rattle.rules.specs.Reading.{Reading, frame, readString, readBody, readTyped
 use Rattle.rules.proofs.Numbers.{number-there, number-cases, whole-width}
 use Rattle.fields.specs.Ends.{endOf}
 use Rattle.fields.proofs.StringFields.{body-read}
-use Rattle.flat.specs.Flat.{flatRow, flatFrame, padded}
+use Rattle.slots.specs.Flat.{flatRow, flatFrame, padded}
 use Rattle.fast_reading.specs.Answer.{ReadsAs}
 
 -- ---- A row

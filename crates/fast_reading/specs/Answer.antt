@@ -5,7 +5,7 @@ use mathlib.Core.Bool.{Bool, true, false}
 use mathlib.Core.List.{List}
 use Prim.Native.Nat.{ℕ}
 use Rattle.rules.specs.Reading.{Reading, frame, short, refusal}
-use Rattle.flat.specs.Flat.{flatFrame}
+use Rattle.slots.specs.Flat.{flatFrame}
 
 abbrev pub ReadsAs : Reading → List ℕ → Bool → List ℕ → Type 0
 ReadsAs reading old false new = new ≡ old

@@ -2,7 +2,7 @@
 ghost use Rattle.rules.specs.Reading.{readLayout};
 ghost use Rattle.fast_reading.specs.Answer.{ReadsAs};
 use crate::number;
-use crate::slots::first_six;
+use crate::filled::first_six;
 use fields::text_end;
 use wire::Width;
 

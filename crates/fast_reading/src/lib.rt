@@ -4,14 +4,14 @@ ghost use Prim.Native.Nat.{_+_, _<_, _≤_};
 ghost use lib.ListN.{length};
 ghost use Rattle.wire.specs.Integers.{bigEndian, widthOf};
 ghost use Rattle.wire.specs.Signed.{signed};
-ghost use Rattle.flat.specs.Flat.{bits};
+ghost use Rattle.slots.specs.Flat.{bits};
 use wire::Width;
 
 mod connection;
 mod consuming;
 mod publishing;
 mod reading;
-mod slots;
+mod filled;
 
 pub use reading::read;
 

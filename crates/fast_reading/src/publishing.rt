@@ -2,8 +2,8 @@
 ghost use Rattle.rules.specs.Reading.{readLayout};
 ghost use Rattle.fast_reading.specs.Answer.{ReadsAs};
 use crate::number;
-use crate::slots::first_eight;
-use crate::slots::first_six;
+use crate::filled::first_eight;
+use crate::filled::first_six;
 use fields::text_end;
 use lists::messages_end;
 use wire::Width;

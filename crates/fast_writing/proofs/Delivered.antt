@@ -19,7 +19,7 @@ use Rattle.rules.specs.Outcome.{got, repeated}
 use Rattle.rules.specs.Reading.{readEntry}
 use Rattle.rules.specs.Writing.{wrote, fitsSigned, fitsHeader, writeChunk}
 use Rattle.fields.proofs.Encodings.{fits}
-use Rattle.flat.specs.Unflat.{slot}
+use Rattle.slots.specs.Unflat.{slot}
 use Rattle.fast_writing.specs.Checks.{IsPart, IsHeader, IsWide}
 use Rattle.fast_writing.proofs.Chain.{joined, part-front, number-front, Encodes}
 use Rattle.fast_writing.proofs.Encoded.{rowWritten, part-long}

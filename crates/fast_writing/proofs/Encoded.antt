@@ -24,7 +24,7 @@ use Rattle.fields.specs.Ends.{endOf}
 use Rattle.fields.proofs.Encodings.{fits, string-bytes, position-fits}
 use Rattle.fields.proofs.Parts.{lent}
 use Rattle.lists.proofs.FixedWidth.{repeated-read, of-width}
-use Rattle.flat.specs.Unflat.{slot, unflatOctets, unflatOffset, unflatRow}
+use Rattle.slots.specs.Unflat.{slot, unflatOctets, unflatOffset, unflatRow}
 use Rattle.fast_writing.specs.Checks.{IsPart, IsText}
 use Rattle.fast_writing.proofs.Chain.{joined, part-front, number-front, Encodes}
 use Rattle.fast_writing.proofs.Eights.{eight}

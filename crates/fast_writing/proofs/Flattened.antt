@@ -5,7 +5,7 @@ use Prim.Native.Nat.{ℕ}
 use Rattle.protocol.specs.Decision.{layout, versionsIn, ofVersion, decide}
 use Rattle.protocol.specs.Table.{table, rowIn}
 use Rattle.rules.specs.Writing.{Writing, writeFrame}
-use Rattle.flat.specs.Unflat.{slot, unflatFrame, writeFlat}
+use Rattle.slots.specs.Unflat.{slot, unflatFrame, writeFlat}
 use Rattle.fast_writing.specs.Answer.{WritesAs, writeRowOf}
 use Rattle.fast_writing.specs.declared.writing.Fast.{Fast}
 use Rattle.fast_writing.specs.declared.writing.Fast.the-variants.{Length, Unwritten}

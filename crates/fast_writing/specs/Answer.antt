@@ -6,7 +6,7 @@ use Prim.Native.Nat.{ℕ}
 use lib.ListN.{drop}
 use Rattle.protocol.specs.Table.{rowOf}
 use Rattle.rules.specs.Writing.{Writing, length, writeRow, writeEncoded}
-use Rattle.flat.specs.Unflat.{unflatRow}
+use Rattle.slots.specs.Unflat.{unflatRow}
 use Rattle.fast_writing.specs.declared.writing.Fast.{Fast}
 use Rattle.fast_writing.specs.declared.writing.Fast.the-variants.{Length, Unwritten}
 

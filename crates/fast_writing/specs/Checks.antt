@@ -6,7 +6,7 @@ use Prim.Native.Nat.{ℕ, _+_, _<_, _≤_}
 use lib.ListN.{length, take, drop}
 use Rattle.unicode.specs.Utf8.{utf8}
 use Rattle.rules.specs.Reading.{overLimit}
-use Rattle.flat.specs.Unflat.{slot}
+use Rattle.slots.specs.Unflat.{slot}
 
 -- A frame of a Size is under the limit, and there is room for it.
 pub record Fits (limit size room : ℕ) : Type 0 where

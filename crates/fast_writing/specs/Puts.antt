@@ -4,7 +4,7 @@ use Prim.Native.Nat.{ℕ, _/_, _%_}
 use Rattle.wire.specs.Buffer.{Holds}
 use Rattle.wire.specs.Integers.{digits}
 use Rattle.fields.specs.Writer.{behind}
-use Rattle.flat.specs.Unflat.{slot}
+use Rattle.slots.specs.Unflat.{slot}
 
 -- Eight bytes as two halves.
 abbrev pub halves : ℕ → Holds → Holds

@@ -2,7 +2,7 @@
 // frame; where it has not, it has touched no byte of the output, and the general writer is asked, which knows every layout and
 // every refusal.
 ghost use mathlib.Core.List.{[]};
-ghost use Rattle.flat.specs.Unflat.{writeFlat};
+ghost use Rattle.slots.specs.Unflat.{writeFlat};
 ghost use Rattle.fast_writing.specs.Answer.{WritesAs, writeRowOf};
 use crate::checks::fits;
 use crate::consuming::credit;

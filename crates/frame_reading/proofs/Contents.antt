@@ -17,9 +17,9 @@ use Rattle.rules.proofs.Bounds.{Numbered, Bounded, numbered, bounded-content}
 use Rattle.rules.proofs.Listed.{row-passes}
 use Rattle.fields.specs.Cursor.{landed}
 use Rattle.fields.specs.declared.cursor.Cursor.{Cursor}
-use Rattle.flat.specs.Flat.{flatRow, padded, flatFrame, slotsAfter}
-use Rattle.flat.specs.Unflat.{slotsIn}
-use Rattle.field_slots.specs.Reading.{contentSlots}
+use Rattle.slots.specs.Flat.{flatRow, padded, flatFrame, slotsAfter}
+use Rattle.slots.specs.Unflat.{slotsIn}
+use Rattle.slot_fields.specs.Reading.{contentSlots}
 use Rattle.frame_reading.specs.Answer.{told}
 use Rattle.frame_reading.specs.declared.reading.FrameRead.{FrameRead}
 use Rattle.frame_reading.specs.declared.reading.FrameRead.the-variants.{Frame, Refused}

@@ -7,7 +7,7 @@ use Rattle.protocol.specs.Fields.{Fields}
 use Rattle.protocol.specs.declared.place.Place.{Place}
 use Rattle.rules.specs.Answers.{readingRefusal}
 use Rattle.rules.specs.Reading.{Reading, frame, short, refusal}
-use Rattle.flat.specs.Flat.{flatFrame, slotsAfter}
+use Rattle.slots.specs.Flat.{flatFrame, slotsAfter}
 use Rattle.frame_reading.specs.Answer.{told, refusalOf}
 use Rattle.frame_reading.specs.declared.reading.FrameRead.{FrameRead}
 use Rattle.frame_reading.specs.declared.reading.FrameRead.the-variants.{Frame, Short, Refused}

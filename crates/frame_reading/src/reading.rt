@@ -6,7 +6,7 @@ ghost use Rattle.protocol.specs.Layouts.{rowFrom};
 ghost use Rattle.protocol.specs.Table.{rowOf};
 ghost use Rattle.rules.specs.Answers.{readingRefusal};
 ghost use Rattle.rules.specs.Reading.{readFrame, readDecided, readLayout, readSized};
-ghost use Rattle.flat.specs.Flat.{slotsAfter};
+ghost use Rattle.slots.specs.Flat.{slotsAfter};
 ghost use Rattle.frame_reading.specs.Answer.{told, refusalOf};
 use fields::Cursor;
 use fields::over_limit;
@@ -97,7 +97,7 @@ fn read_content(
     ensures { λ r. ⌜ r ≡ told (readLayout key version (now (s .entry))) ⌝ }
     ensures { λ _. ⌜ now (slots .exit) ≡ slotsAfter (now (slots .entry)) (readLayout key version (now (s .entry))) ⌝ }
 {
-    let c = field_slots::read_content(s, key, version, fields, slots);
+    let c = slot_fields::read_content(s, key, version, fields, slots);
     let number = c.refused;
     let at = c.at;
     if number != 0 {

@@ -3,7 +3,7 @@ use mathlib.Core.Path.{_≡_, _∙_, sym, ap, subst}
 use mathlib.Core.List.{List}
 use Prim.Native.Nat.{ℕ}
 use Rattle.rules.specs.Writing.{Writing, length}
-use Rattle.flat.specs.Unflat.{writeFlat}
+use Rattle.slots.specs.Unflat.{writeFlat}
 use Rattle.fast_writing.specs.Answer.{WritesAs}
 use Rattle.fast_writing.specs.declared.writing.Fast.{Fast}
 use Rattle.fast_writing.specs.declared.writing.Fast.the-variants.{Length, Unwritten}

@@ -9,7 +9,7 @@ use Rattle.protocol.specs.Refusals.{unknownKey, unknownVersion}
 use Rattle.protocol.specs.Table.{rowOf}
 use Rattle.rules.specs.Writing.{unwritten, writeFrame, writeDecided}
 use Rattle.fields.specs.Writer.{State, stepRow}
-use Rattle.flat.specs.Unflat.{unflatRow, unflatFrame, writeFlat}
+use Rattle.slots.specs.Unflat.{unflatRow, unflatFrame, writeFlat}
 use Rattle.frame_writing.specs.Content.{stepHead, stepLayout}
 use Rattle.frame_writing.specs.Written.{stepFrame}
 

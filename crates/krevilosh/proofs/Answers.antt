@@ -11,17 +11,17 @@ use Rattle.rules.specs.Reading.{readFrame}
 use Rattle.rules.proofs.RefusalNumbers.{numbers}
 use Rattle.ledger.specs.Calls.{answerBy}
 use Rattle.ledger.specs.Numbers.{LedgerNumber}
-use Rattle.credit.specs.Calls.{received, nothing, number}
-use Rattle.credit.specs.Numbers.{creditRefusal}
-use Rattle.credit.specs.Step.{answer}
-use Rattle.credit.proofs.Numbers.{credit-numbers}
-use Rattle.publisher.specs.Numbers.{refusalNumber}
+use Rattle.credit_ledger.specs.Calls.{received, nothing, number}
+use Rattle.credit_ledger.specs.Numbers.{creditRefusal}
+use Rattle.credit_ledger.specs.Step.{answer}
+use Rattle.credit_ledger.proofs.Numbers.{credit-numbers}
+use Rattle.publisher_ledger.specs.Numbers.{refusalNumber}
 use Rattle.frame_reading.specs.Answer.{refusalOf}
 use Rattle.frame_reading.specs.declared.reading.FrameRead.{FrameRead}
 use Rattle.frame_reading.specs.declared.reading.FrameRead.the-variants.{Frame, Short, Refused}
-use Rattle.receiving.specs.Answer.{receivedRefusal}
-use Rattle.receiving.specs.declared.receiving.Received.{Received}
-use Rattle.receiving.specs.declared.receiving.Received.the-variants.{Reading}
+use Rattle.credit_receiving.specs.Answer.{receivedRefusal}
+use Rattle.credit_receiving.specs.declared.receiving.Received.{Received}
+use Rattle.credit_receiving.specs.declared.receiving.Received.the-variants.{Reading}
 use Rattle.krevilosh.specs.Answer.{orZero, refusalAnswer, NeededFits}
 
 -- ---- The bytes needed

@@ -14,10 +14,10 @@ use Rattle.protocol.specs.declared.kind.Element.the-variants.{Message, Filtered
 use Rattle.protocol.specs.declared.place.Place.{Place}
 use Rattle.rules.specs.Writing.{placeOf}
 use Rattle.rules.proofs.Gives.{choice}
-use Rattle.elements.specs.Found.{Each, AllElements, FieldFound, RowFound}
-use Rattle.elements.specs.Questions.{elementAt}
-use Rattle.elements.proofs.Found.{everything-is-found}
-use Rattle.flat.specs.Flat.{flatElement}
+use Rattle.questions.specs.Found.{Each, AllElements, FieldFound, RowFound}
+use Rattle.questions.specs.Questions.{elementAt}
+use Rattle.questions.proofs.Found.{everything-is-found}
+use Rattle.slots.specs.Flat.{flatElement}
 use Rattle.krevilosh.specs.Asked.{shapeOf, flatAsked, askElement}
 use Rattle.krevilosh.specs.Elements.{shapeNumber, EveryElement, FieldAsked, RowAsked, EveryElementIsFound}
 

@@ -20,22 +20,22 @@ use Rattle.rules.specs.Writing as writing
 use Rattle.rules.proofs.Bounds.{FieldNumber, Bounded, bounded-entry, bounded-field}
 use Rattle.rules.proofs.Gives.{choice}
 use Rattle.rules.proofs.RefusalNumbers.{numbers}
-use Rattle.elements.specs.Questions.{Asked, found, refusal, asked, numberOf, elementAt, messageAt}
-use Rattle.elements.proofs.Questions.{element-number, message-number}
-use Rattle.flat.specs.Unflat.{unflatFrame, writeFlat}
+use Rattle.questions.specs.Questions.{Asked, found, refusal, asked, numberOf, elementAt, messageAt}
+use Rattle.questions.proofs.Questions.{element-number, message-number}
+use Rattle.slots.specs.Unflat.{unflatFrame, writeFlat}
 use Rattle.chunk_reader.specs.Reader.{spot, behindEntry, advanced}
 use Rattle.chunk_reader.specs.Slots.{openNumber, nextSpot}
 use Rattle.chunk_reader.specs.declared.spot.Found.{Found}
 use Rattle.chunk_reader.specs.declared.spot.Found.the-variants.{Ready}
 use Rattle.chunk_reader.specs.declared.spot.Spot.{Spot}
 use Rattle.ledger.specs.Numbers.{LedgerNumber, IfNumbered}
-use Rattle.credit.specs.Calls.{opening, grant, closing, received}
-use Rattle.credit.specs.Numbers.{creditRefusal}
-use Rattle.credit.specs.Step as credit
-use Rattle.credit.proofs.Numbers.{credit-numbers}
-use Rattle.publisher.specs.Numbers.{refusalNumber}
-use Rattle.publisher.specs.Step as publisher
-use Rattle.publisher.proofs.Numbers.{publisher-numbers}
+use Rattle.credit_ledger.specs.Calls.{opening, grant, closing, received}
+use Rattle.credit_ledger.specs.Numbers.{creditRefusal}
+use Rattle.credit_ledger.specs.Step as credit
+use Rattle.credit_ledger.proofs.Numbers.{credit-numbers}
+use Rattle.publisher_ledger.specs.Numbers.{refusalNumber}
+use Rattle.publisher_ledger.specs.Step as publisher
+use Rattle.publisher_ledger.proofs.Numbers.{publisher-numbers}
 use Rattle.krevilosh.specs.Answer.{answer, orZero, refusalAnswer, writtenAnswer, nextAnswer}
 use Rattle.krevilosh.specs.Asked.{flatAsked, askElement, askedHeader, flatMessage, askMessage}
 use Rattle.krevilosh.specs.Numbers.{Tells, askedRefusal, foundRefusal, numberRefusal, lengthOf, entriesIn, HostNumbers}

@@ -18,7 +18,7 @@ use Rattle.rules.specs.Writing.{Encoding, wrote, refuse, Writing, writeRow, wri
 use Rattle.frame_writing.specs.Written.{writingOf}
 use Rattle.frame_writing.specs.declared.writing.Written.{Written}
 use Rattle.frame_writing.specs.declared.writing.Written.the-variants.{Length, Refused}
-use Rattle.flat.specs.Unflat.{unflatFrame, writeFlat}
+use Rattle.slots.specs.Unflat.{unflatFrame, writeFlat}
 use Rattle.krevilosh.specs.Answer.{answer, LengthFits, writtenAnswer}
 
 abbrev Fits : Writing → Type 0

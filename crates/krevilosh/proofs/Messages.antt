@@ -19,12 +19,12 @@ use Rattle.protocol.specs.declared.place.Place.{Place}
 use Rattle.rules.specs.Grammar.{ValidFrame, ValidRow, Valid}
 use Rattle.rules.specs.Writing.{placeOf}
 use Rattle.rules.proofs.Sound.{sound}
-use Rattle.elements.specs.Found.{AllMessages, FieldFound, RowFound}
-use Rattle.elements.specs.Questions.{messageAt}
-use Rattle.elements.proofs.Found.{everything-is-found}
-use Rattle.flat.specs.Flat.{bits, padded, flatFrame}
-use Rattle.flat.specs.Inverse.{SignedRow}
-use Rattle.flat.proofs.Fields.{plain-table, of-row, row-cases}
+use Rattle.questions.specs.Found.{AllMessages, FieldFound, RowFound}
+use Rattle.questions.specs.Questions.{messageAt}
+use Rattle.questions.proofs.Found.{everything-is-found}
+use Rattle.slots.specs.Flat.{bits, padded, flatFrame}
+use Rattle.slots.specs.Inverse.{SignedRow}
+use Rattle.slots.proofs.Fields.{plain-table, of-row, row-cases}
 use Rattle.chunk_reader.proofs.Delivers.{versions}
 use Rattle.krevilosh.specs.Asked.{askedHeader, flatMessage, askMessage}
 use Rattle.krevilosh.specs.Messages.{EveryMessage, EveryMessageIsFound}

@@ -15,12 +15,12 @@ use Rattle.protocol.specs.Kinds.{elementRow}
 use Rattle.protocol.specs.declared.chunk.ChunkHeader.{ChunkHeader}
 use Rattle.protocol.specs.declared.kind.Element.{Element}
 use Rattle.protocol.specs.declared.place.Place.{Place}
-use Rattle.elements.specs.Questions.{Asked, numberOf, elementAt, messageAt}
+use Rattle.questions.specs.Questions.{Asked, numberOf, elementAt, messageAt}
 use Rattle.rules.specs.Reading.{hasEntries}
-use Rattle.elements.specs.Answer.{elementAnswer, elementFields, OfElement}
-use Rattle.elements.specs.declared.list_element.AskedElement.{AskedElement}
-use Rattle.elements.specs.declared.list_element.AskedElement.the-variants.{Element as Found, Refused}
-use Rattle.flat.specs.Flat.{flatElement}
+use Rattle.questions.specs.Answer.{elementAnswer, elementFields, OfElement}
+use Rattle.questions.specs.declared.list_element.AskedElement.{AskedElement}
+use Rattle.questions.specs.declared.list_element.AskedElement.the-variants.{Element as Found, Refused}
+use Rattle.slots.specs.Flat.{flatElement}
 use Rattle.krevilosh.specs.Asked.{askedSlots, flatAsked, askElement, messageFrom, askMessage}
 use Rattle.krevilosh.specs.Shapes.{slotsIn}
 

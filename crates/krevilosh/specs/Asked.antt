@@ -14,8 +14,8 @@ use Rattle.protocol.specs.declared.chunk.ChunkHeader.{ChunkHeader}
 use Rattle.protocol.specs.declared.kind.Element.{Element}
 use Rattle.protocol.specs.declared.kind.Element.the-variants.{Message, FilteredMessage, PublishingId, PublishingError, Property, Name, CommandVersions, Broker, StreamMetadata, Statistic, BrokerReference}
 use Rattle.protocol.specs.declared.place.Place.{Place}
-use Rattle.elements.specs.Questions.{Asked, found, refusal, elementAt, messageAt}
-use Rattle.flat.specs.Flat.{flatElement, flatPlace, padded}
+use Rattle.questions.specs.Questions.{Asked, found, refusal, elementAt, messageAt}
+use Rattle.slots.specs.Flat.{flatElement, flatPlace, padded}
 
 -- The slots behind the pointer afterwards: a refusal leaves them as they were.
 abbrev pub askedSlots : List ℕ → Asked (List ℕ) → List ℕ

@@ -14,9 +14,9 @@ use Rattle.protocol.specs.declared.kind.Element.the-variants.{Message, Filtered
 use Rattle.protocol.specs.declared.place.Place.{Place}
 use Rattle.rules.specs.Reading.{frame, readFrame}
 use Rattle.rules.specs.Writing.{placeOf}
-use Rattle.elements.specs.Found.{Each, AllElements}
-use Rattle.elements.specs.Questions.{found, refusal}
-use Rattle.flat.specs.Flat.{flatRow, padded}
+use Rattle.questions.specs.Found.{Each, AllElements}
+use Rattle.questions.specs.Questions.{found, refusal}
+use Rattle.slots.specs.Flat.{flatRow, padded}
 use Rattle.krevilosh.specs.Asked.{askElement, shapeOf}
 
 -- The shape of each kind of element, as the host's header numbers them.

@@ -11,9 +11,9 @@ use Rattle.protocol.specs.Refusals.{valueNotAdmitted}
 use Rattle.protocol.specs.declared.chunk.ChunkHeader.{ChunkHeader}
 use Rattle.protocol.specs.declared.place.Place.{Place}
 use Rattle.rules.specs.Reading.{frame, readFrame}
-use Rattle.elements.specs.Found.{messageCount, AllMessages}
-use Rattle.elements.specs.Questions.{found, refusal}
-use Rattle.flat.specs.Flat.{flatPlace, padded, flatFrame}
+use Rattle.questions.specs.Found.{messageCount, AllMessages}
+use Rattle.questions.specs.Questions.{found, refusal}
+use Rattle.slots.specs.Flat.{flatPlace, padded, flatFrame}
 use Rattle.krevilosh.specs.Asked.{askMessage}
 
 -- The messages of the chunk that is the frame's last field, each asked for in the frame's slots.

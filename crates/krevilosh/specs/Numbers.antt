@@ -11,17 +11,17 @@ use Rattle.rules.specs.Answers.{Refusal, numbered, readingRefusal, writingRefus
 use Rattle.rules.specs.Reading.{readFrame, readChunk}
 use Rattle.rules.specs.Writing.{Written, length}
 use Rattle.rules.specs.Writing as writing
-use Rattle.elements.specs.Questions.{Asked, found, refusal, asked, numberOf}
-use Rattle.flat.specs.Unflat.{writeFlat}
+use Rattle.questions.specs.Questions.{Asked, found, refusal, asked, numberOf}
+use Rattle.slots.specs.Unflat.{writeFlat}
 use Rattle.chunk_reader.specs.Slots.{openNumber, nextFound}
 use Rattle.chunk_reader.specs.declared.spot.Found.{Found}
 use Rattle.chunk_reader.specs.declared.spot.Found.the-variants.{Ready, Message, Done, Refused}
-use Rattle.credit.specs.Calls.{opening, grant, closing, received}
-use Rattle.credit.specs.Numbers.{creditRefusal}
-use Rattle.credit.specs.Step as credit
-use Rattle.publisher.specs.Calls.{Call}
-use Rattle.publisher.specs.Numbers.{refusalNumber}
-use Rattle.publisher.specs.Step as publisher
+use Rattle.credit_ledger.specs.Calls.{opening, grant, closing, received}
+use Rattle.credit_ledger.specs.Numbers.{creditRefusal}
+use Rattle.credit_ledger.specs.Step as credit
+use Rattle.publisher_ledger.specs.Calls.{Call}
+use Rattle.publisher_ledger.specs.Numbers.{refusalNumber}
+use Rattle.publisher_ledger.specs.Step as publisher
 use Rattle.krevilosh.specs.Answer.{orZero, refusalAnswer, writtenAnswer, nextAnswer}
 use Rattle.krevilosh.specs.Asked.{askElement, askMessage}
 

@@ -4,10 +4,10 @@ use mathlib.Core.Option.{Option, none, some}
 use Prim.Native.Nat.{ℕ}
 use Rattle.protocol.specs.Kinds.{elementRow}
 use Rattle.protocol.specs.declared.kind.Element.{Element}
-use Rattle.elements.specs.Answer.{elementFields, kindOf}
-use Rattle.elements.specs.declared.list_element.AskedElement.{AskedElement}
-use Rattle.elements.specs.declared.list_element.AskedElement.the-variants.{Element as Found, Refused}
-use Rattle.flat.specs.Flat.{flatElement}
+use Rattle.questions.specs.Answer.{elementFields, kindOf}
+use Rattle.questions.specs.declared.list_element.AskedElement.{AskedElement}
+use Rattle.questions.specs.declared.list_element.AskedElement.the-variants.{Element as Found, Refused}
+use Rattle.slots.specs.Flat.{flatElement}
 use Rattle.krevilosh.specs.declared.asking.Shape.{Shape}
 use Rattle.krevilosh.specs.declared.asking.Shape.the-variants.{Kind, Unknown}
 

@@ -4,15 +4,15 @@ ghost use mathlib.Core.Path.{_≡_};
 ghost use lib.Dec.{ltb};
 ghost use Rattle.wire.specs.Signed.{signed};
 ghost use Rattle.protocol.specs.Fields.{place};
-ghost use Rattle.elements.specs.Questions.{messageAt, numberOf};
+ghost use Rattle.questions.specs.Questions.{messageAt, numberOf};
 ghost use Rattle.rules.specs.Reading.{hasEntries};
-ghost use Rattle.elements.specs.Answer.{elementAnswer};
+ghost use Rattle.questions.specs.Answer.{elementAnswer};
 ghost use Rattle.krevilosh.specs.Asked.{askElement, askMessage, askedHeader, askedSlots, flatMessage, shapeOf};
 ghost use Rattle.krevilosh.specs.Shapes.{kindIn, slotsIn};
-use elements::AskedElement;
-use elements::AskedPlace;
-use flat::element_slots;
-use flat::place_slots;
+use questions::AskedElement;
+use questions::AskedPlace;
+use slots::element_slots;
+use slots::place_slots;
 use protocol::Chunk;
 use protocol::ChunkHeader;
 use protocol::Element;
@@ -50,7 +50,7 @@ pub extern "C" fn krevilosh_element(
         count: count as usize,
         place: place,
     };
-    let asked = elements::element(kind, source, list, index as usize);
+    let asked = questions::element(kind, source, list, index as usize);
     put_element(element, asked)
 }
 
@@ -169,7 +169,7 @@ fn put_message(
         header: header,
         data: data,
     };
-    match elements::message_place(source, chunk, index as usize) {
+    match questions::message_place(source, chunk, index as usize) {
         AskedPlace::Place(found) => {
             *slots = place_slots(found);
             0

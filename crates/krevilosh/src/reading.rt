@@ -2,17 +2,17 @@
 ghost use mathlib.Core.Path.{_≡_};
 ghost use Rattle.rules.specs.Answers.{readingRefusal};
 ghost use Rattle.rules.specs.Reading.{readFrame};
-ghost use Rattle.credit.specs.Calls.{received};
-ghost use Rattle.credit.specs.Numbers.{creditRefusal};
-ghost use Rattle.credit.specs.Step.{answer, after};
-ghost use Rattle.receiving.specs.Answer.{slotsAfter};
-ghost use Rattle.flat.specs.Flat as flat;
+ghost use Rattle.credit_ledger.specs.Calls.{received};
+ghost use Rattle.credit_ledger.specs.Numbers.{creditRefusal};
+ghost use Rattle.credit_ledger.specs.Step.{answer, after};
+ghost use Rattle.credit_receiving.specs.Answer.{slotsAfter};
+ghost use Rattle.slots.specs.Flat as flat;
 ghost use Rattle.frame_reading.specs.Answer.{refusalOf};
 ghost use Rattle.krevilosh.specs.Answer.{refusalAnswer, NeededFits};
 use crate::packed;
 use frame_reading::FrameRead;
 use protocol::refusal;
-use receiving::Received;
+use credit_receiving::Received;
 
 // The frame at the start of the bytes, under a frame limit, into the frame's slots.
 #[no_mangle]
@@ -36,7 +36,7 @@ pub extern "C" fn krevilosh_credit_receive(
     ensures { λ _. ⌜ now (credits .exit) ≡ after (now (credits .entry)) (received (now (bytes .entry)) limit) ⌝ }
     ensures { λ _. ⌜ now (frame .exit) ≡ slotsAfter (now (frame .entry)) (answer (now (credits .entry)) (received (now (bytes .entry)) limit)) ⌝ }
 {
-    match receiving::receive(credits, bytes, limit, frame) {
+    match credit_receiving::receive(credits, bytes, limit, frame) {
         Received::Reading(read) => number_of(read),
         Received::Refused(number) => number as u64,
     }

@@ -1,6 +1,6 @@
 // Writing frames.
 ghost use mathlib.Core.Path.{_≡_};
-ghost use Rattle.flat.specs.Unflat.{writeFlat};
+ghost use Rattle.slots.specs.Unflat.{writeFlat};
 ghost use Rattle.krevilosh.specs.Answer.{writtenAnswer};
 use crate::packed;
 use frame_writing::Written;

@@ -28,11 +28,11 @@ use Rattle.rules.proofs.CompleteChunks.{type-fits}
 use Rattle.rules.proofs.Listed.{both, differ}
 use Rattle.rules.proofs.Inside.{inside}
 use Rattle.rules.proofs.Sound.{sound}
-use Rattle.flat.specs.Flat.{nullLength, flatHeader, flatPlace, flatField, flatRow, padded, flatFrame, slotsAfter}
-use Rattle.flat.specs.Unflat.{slotsOf}
-use Rattle.flat.proofs.Fields.{plain, plainRow, plain-table, offset-fits, of-kind, row-cases, no-more, no-fewer, told-octets}
-use Rattle.flat.proofs.Inverse.{octets-back, offset-back}
-use Rattle.flat.proofs.Padding.{field-slots}
+use Rattle.slots.specs.Flat.{nullLength, flatHeader, flatPlace, flatField, flatRow, padded, flatFrame, slotsAfter}
+use Rattle.slots.specs.Unflat.{slotsOf}
+use Rattle.slots.proofs.Fields.{plain, plainRow, plain-table, offset-fits, of-kind, row-cases, no-more, no-fewer, told-octets}
+use Rattle.slots.proofs.Inverse.{octets-back, offset-back}
+use Rattle.slots.proofs.Padding.{field-slots}
 use Rattle.frame_reading.specs.Answer.{told}
 use Rattle.frame_reading.specs.declared.reading.FrameRead.the-variants.{Frame}
 use Rattle.frame_reading.proofs.Told.{frame-told, slots-told}

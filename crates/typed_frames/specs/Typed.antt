@@ -11,7 +11,7 @@ use Rattle.protocol.specs.Kinds.{Kind, unsigned, signed, string, specification,
 use Rattle.protocol.specs.Table.{rowOf}
 use Rattle.protocol.specs.declared.chunk.ChunkHeader.{ChunkHeader}
 use Rattle.protocol.specs.declared.place.Place.{Place}
-use Rattle.flat.specs.Unflat.{unflatOctets, unflatOffset, slotsOf}
+use Rattle.slots.specs.Unflat.{unflatOctets, unflatOffset, slotsOf}
 
 -- A chunk's header from the slots that start at a place.
 abbrev pub typedHeader : ℕ → List ℕ → ChunkHeader

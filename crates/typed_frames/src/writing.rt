@@ -3,7 +3,7 @@ ghost use mathlib.Core.Path.{_≡_};
 ghost use Rattle.protocol.specs.Frames.{fieldsOf};
 ghost use Rattle.rules.specs.Writing.{writeFrame};
 ghost use Rattle.frame_writing.specs.Written.{writingOf};
-use flattening::frame_slots;
+use typed_slots::frame_slots;
 use frame_writing::Written;
 use protocol::Frame;
 

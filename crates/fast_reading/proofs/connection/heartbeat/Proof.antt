@@ -7,7 +7,7 @@ use lib.ListN.{length}
 use denote.Ref.{now}
 use Rattle.protocol.specs.Table.{table, rowIn}
 use Rattle.rules.specs.Reading.{readLayout}
-use Rattle.flat.specs.Flat.{padded}
+use Rattle.slots.specs.Flat.{padded}
 use Rattle.fast_reading.specs.Answer.{ReadsAs}
 use Rattle.fast_reading.proofs.Rows.{reads, done}
 use borrow.Author.Needs.{needs}

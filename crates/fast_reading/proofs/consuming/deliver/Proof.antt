@@ -12,7 +12,7 @@ use Rattle.wire.specs.Signed.{signed}
 use Rattle.protocol.specs.Decision.{layout, versionsIn, ofVersion, decide}
 use Rattle.protocol.specs.Table.{table, rowIn}
 use Rattle.rules.specs.Reading.{readDecided, readField, headerAt}
-use Rattle.flat.specs.Flat.{bits, flatHeader, padded}
+use Rattle.slots.specs.Flat.{bits, flatHeader, padded}
 use Rattle.fast_reading.specs.Answer.{ReadsAs}
 use Rattle.fast_reading.specs.Chunk.{OpenChunk, chunkAt}
 use Rattle.fast_reading.proofs.Chunks.{opened, header-slots}

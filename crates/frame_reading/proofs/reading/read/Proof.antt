@@ -6,7 +6,7 @@ use Prim.Native.Nat.{ℕ}
 use borrow.Author.Needs.{needs}
 use Rattle.rules.specs.Answers.{readingRefusal}
 use Rattle.rules.specs.Reading.{Reading, frame, short, refusal}
-use Rattle.flat.specs.Flat.{slotsAfter}
+use Rattle.slots.specs.Flat.{slotsAfter}
 use Rattle.fast_reading.specs.Answer.{ReadsAs}
 use Rattle.frame_reading.specs.Answer.{told, refusalOf}
 use Rattle.frame_reading.specs.declared.reading.FrameRead.{FrameRead}

@@ -2,7 +2,7 @@
 use mathlib.Core.Path.{_∙_, sym}
 use native.Mathlib.Omega.{arith}
 use Rattle.frame_writing.proofs.Writings.{fields-refused, sized, size-over, limit-over, no-room, frame-put}
-use Rattle.flat.specs.Unflat.{unflatFrame, writeFlat}
+use Rattle.slots.specs.Unflat.{unflatFrame, writeFlat}
 use Rattle.frame_writing.proofs.Flattened.{listed-flat}
 use borrow.Author.Needs.{needs}
 use Rattle.frame_writing.proofs.writing.write_layout.Statement.{statement}

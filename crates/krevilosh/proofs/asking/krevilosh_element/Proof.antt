@@ -4,7 +4,7 @@ use mathlib.Core.Option.{Option}
 use denote.Ref.{now}
 use Rattle.protocol.specs.Fields.{place}
 use Rattle.protocol.specs.declared.kind.Element.{Element}
-use Rattle.elements.specs.Questions.{numberOf}
+use Rattle.questions.specs.Questions.{numberOf}
 use Rattle.krevilosh.specs.Asked.{askElement, askedSlots, shapeOf}
 use Rattle.krevilosh.specs.Shapes.{kindIn}
 use Rattle.krevilosh.proofs.Questions.{element-asked}

@@ -1,9 +1,9 @@
 -- By the case.
 use mathlib.Core.Path.{_∙_, sym, ap}
 use denote.Ref.{now}
-use Rattle.elements.specs.Questions.{numberOf}
-use Rattle.elements.specs.Answer.{elementAnswer}
-use Rattle.elements.specs.declared.list_element.AskedElement.{AskedElement}
+use Rattle.questions.specs.Questions.{numberOf}
+use Rattle.questions.specs.Answer.{elementAnswer}
+use Rattle.questions.specs.declared.list_element.AskedElement.{AskedElement}
 use Rattle.krevilosh.specs.Shapes.{slotsIn}
 use borrow.Author.Needs.{needs}
 use Rattle.krevilosh.proofs.asking.put_element.Statement.{statement}

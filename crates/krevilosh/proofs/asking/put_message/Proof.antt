@@ -3,8 +3,8 @@ use mathlib.Core.Path.{_∙_, sym, ap}
 use denote.Ref.{now}
 use Rattle.protocol.specs.Fields.{place}
 use Rattle.protocol.specs.declared.place.Place.{Place}
-use Rattle.elements.specs.Questions.{Asked, numberOf}
-use Rattle.elements.specs.Answer.{placeAnswer}
+use Rattle.questions.specs.Questions.{Asked, numberOf}
+use Rattle.questions.specs.Answer.{placeAnswer}
 use Rattle.krevilosh.specs.Asked.{askedHeader, askedSlots, flatMessage}
 use Rattle.krevilosh.proofs.Questions.{same-question}
 use borrow.Author.Needs.{needs}

@@ -1,8 +1,8 @@
 -- The number of what the ledger answers.
 use mathlib.Core.Path.{_∙_, ap}
 use Rattle.ledger.specs.Answers.{numberOf}
-use Rattle.credit.specs.Calls.{Reply}
-use Rattle.credit.specs.Numbers.{creditRefusal}
+use Rattle.credit_ledger.specs.Calls.{Reply}
+use Rattle.credit_ledger.specs.Numbers.{creditRefusal}
 use Rattle.krevilosh.specs.Answer.{refusalAnswer}
 use Rattle.krevilosh.proofs.Answers.{credit-changed}
 use borrow.Author.Needs.{needs}

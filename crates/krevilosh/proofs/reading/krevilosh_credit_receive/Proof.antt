@@ -4,7 +4,7 @@ use native.Mathlib.Omega.{arith}
 use borrow.Author.Needs.{needs}
 use denote.Ref.{now}
 use Rattle.wire.specs.Integers.{Bytes}
-use Rattle.receiving.specs.Answer.{receivedRefusal}
+use Rattle.credit_receiving.specs.Answer.{receivedRefusal}
 use Rattle.krevilosh.specs.Answer.{refusalAnswer}
 use Rattle.krevilosh.proofs.Answers.{received-fits}
 use Rattle.krevilosh.proofs.reading.krevilosh_credit_receive.Statement.{statement}

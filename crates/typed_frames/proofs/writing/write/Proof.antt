@@ -3,8 +3,8 @@ use mathlib.Core.Path.{_∙_, ap}
 use mathlib.Core.List.{List}
 use Prim.Native.Nat.{ℕ}
 use borrow.Author.Needs.{needs}
-use Rattle.flat.proofs.Inverse.{flat-writes}
-use Rattle.flat.specs.Unflat.{writeFlat}
+use Rattle.slots.proofs.Inverse.{flat-writes}
+use Rattle.slots.specs.Unflat.{writeFlat}
 use Rattle.typed_frames.proofs.writing.write.Statement.{statement}
 use Rattle.typed_frames.proofs.writing.write.Tie as tie
 

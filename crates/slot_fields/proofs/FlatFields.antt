@@ -1,0 +1,83 @@
+-- What a writer does with each field that stands in slots, where the code goes by another way than the field's own writer.
+-- Assumes nothing.
+use mathlib.Core.Path.{_≡_, refl, _∙_, sym, ap}
+use mathlib.Core.Bool.{Bool, true, false, _&&_}
+use mathlib.Core.List.{List, []}
+use Prim.Native.Nat.{ℕ, zero, suc, _^_, _<_, _≤_}
+use native.Mathlib.Omega.{arith}
+use lib.ListN.{getD}
+use borrow.Author.Tests.{eq-eqb, ne-eqb}
+use Rattle.wire.specs.Buffer.{Holds, holds, copied}
+use Rattle.wire.specs.Integers.{digits}
+use Rattle.protocol.specs.Fields.{place}
+use Rattle.protocol.specs.Fields as F
+use Rattle.protocol.specs.Kinds.{spec₀}
+use Rattle.protocol.specs.Kinds as K
+use Rattle.protocol.specs.Refusals.{valueNotAdmitted}
+use Rattle.protocol.specs.declared.chunk.ChunkHeader.{ChunkHeader}
+use Rattle.protocol.specs.declared.offset.OffsetSpecification.{OffsetSpecification}
+use Rattle.protocol.specs.declared.offset.OffsetSpecification.the-variants.{Offset}
+use Rattle.protocol.specs.declared.place.Place.{Place}
+use Rattle.rules.specs.Reading.{isChunkType}
+use Rattle.rules.specs.Writing.{refuse, fitsHeader, writeOffset, writeChunk}
+use Rattle.fields.specs.Writer.{State, state, stood, step, stepField, putOffset}
+use Rattle.fields.specs.declared.writer.Writer.{Writer}
+use Rattle.slots.specs.Unflat.{unflatHeader, unflatOffset}
+use Rattle.slot_fields.specs.Writing.{stepFlat}
+
+-- What a writer does with a field, it does with the field of the slots, if they are the same.
+pub same-step : (kind : K.Kind) (src : List ℕ) (t : State) {f g : F.Field Place} {u : State} → f ≡ g → u ≡ stepField kind src f t → u ≡ stepField kind src g t
+same-step kind src t e i = i ∙ ap (λ (x : F.Field Place). stepField kind src x t) e
+
+-- ---- Offset specifications
+
+pub type-known : (k v : ℕ) → k ≤ 5 → unflatOffset false k v ≡ unflatOffset true k v
+type-known zero v h = refl
+type-known (suc zero) v h = refl
+type-known (suc (suc zero)) v h = refl
+type-known (suc (suc (suc zero))) v h = refl
+type-known (suc (suc (suc (suc zero)))) v h = refl
+type-known (suc (suc (suc (suc (suc zero))))) v h = refl
+type-known (suc (suc (suc (suc (suc (suc k)))))) v h = absurd (omega (arith, h))
+
+type-unknown : (k v : ℕ) → 5 < k → unflatOffset true k v ≡ Offset (256 ^ 8)
+type-unknown k v h =
+    rw (ne-eqb k 0 (λ e. omega (arith, e, h)), ne-eqb k 1 (λ e. omega (arith, e, h)), ne-eqb k 2 (λ e. omega (arith, e, h)), ne-eqb k 3 (λ e. omega (arith, e, h)), ne-eqb k 4 (λ e. omega (arith, e, h)), ne-eqb k 5 (λ e. omega (arith, e, h)))
+
+pub offset-same : (o p : OffsetSpecification) (t u : State) → o ≡ p → u ≡ stepField spec₀ [] (F.offset o) t → u ≡ stepField spec₀ [] (F.offset p) t
+offset-same o p t u e i = i ∙ ap (λ (x : OffsetSpecification). stepField spec₀ [] (F.offset x) t) e
+
+pub unknown-refused : (k v : ℕ) → 5 < k → writeOffset true (unflatOffset true k v) ≡ refuse valueNotAdmitted
+unfolding writeOffset
+unknown-refused k v h = rw (type-unknown k v h)
+
+no-digits : digits 8 0 ≡ digits 8 (256 ^ 8)
+unfolding digits
+no-digits = refl
+
+put-same : (h : Holds) → putOffset (Offset 0) h ≡ putOffset (Offset (256 ^ 8)) h
+put-same h = rw no-digits
+
+pub unknown-put : (k v : ℕ) (w : Writer) (out : List ℕ) (u : State) → 5 < k → w .refused ≡ 0 → w .putting ≡ true → u ≡ stepField spec₀ [] (F.offset (Offset 0)) (state w out) → u ≡ stepField spec₀ [] (F.offset (unflatOffset true k v)) (state w out)
+unfolding step
+unknown-put k v w out u h z p i =
+    offset-same (Offset (256 ^ 8)) (unflatOffset true k v) (state w out) u (sym (type-unknown k v h)) (i ∙ rw (eq-eqb (w .refused) 0 z, p) (ap stood (put-same (holds out (w .at)))))
+
+-- ---- Chunks
+
+and-false : (a b : Bool) → b ≡ false → (a && b) ≡ false
+and-false true b e = e
+and-false false b e = refl
+
+pub unfit-refused : (src : List ℕ) (h : ChunkHeader) (p : Place) → fitsHeader h ≡ false → writeChunk src h p ≡ refuse valueNotAdmitted
+unfolding writeChunk
+unfit-refused src h p e = let k : (isChunkType (h .«chunk_type») && fitsHeader h) ≡ false = and-false (isChunkType (h .«chunk_type»)) (fitsHeader h) e in rw k
+
+pub copied-from : (o q src : List ℕ) (n m a b x y : ℕ) → a ≡ x → b ≡ y → holds q m ≡ copied o n src a b → holds q m ≡ copied o n src x y
+copied-from o q src n m a b x y e f i = i ∙ (λ j. copied o n src (e j) (f j))
+
+pub chunk-same : (src s : List ℕ) (h : ChunkHeader) (p : Place) (x y : ℕ) (t u : State) → h ≡ unflatHeader s → p ≡ place x y → x ≡ getD s 12 0 → y ≡ getD s 13 0 → u ≡ stepField K.chunk src (F.chunk h p) t → u ≡ stepFlat K.chunk src s t
+chunk-same src s h p x y t u e f i j k =
+    k
+    ∙ ap (λ (g : ChunkHeader). stepField K.chunk src (F.chunk g p) t) e
+    ∙ ap (λ (q : Place). stepField K.chunk src (F.chunk (unflatHeader s) q) t) (f ∙ (λ n. place (i n) (j n)))
