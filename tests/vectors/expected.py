@@ -1,5 +1,5 @@
 #!/usr/bin/env python3
-"""Writes the vectors of crates/frame_vectors: `stdin`, and in `stdout` what a reader of frames answers to them.
+"""Writes the vectors of crates/test_frames: `stdin`, and in `stdout` what a reader of frames answers to them.
 
 The reader here is written from the rules (01 "What to build and its rules", and Q-9 for the places of refusals) and
 shares nothing with the library. To add a vector, add a call of `vector` to the list below and run this file, which
@@ -624,7 +624,7 @@ for name, whole in {
 # ---- The files ------------------------------------------------------------------------------------------------------
 
 if __name__ == "__main__":
-    folder = os.path.join(os.path.dirname(os.path.abspath(__file__)), "..", "..", "crates", "frame_vectors")
+    folder = os.path.join(os.path.dirname(os.path.abspath(__file__)), "..", "..", "crates", "test_frames")
     for name, lines in (("stdin", STDIN), ("stdout", STDOUT)):
         with open(os.path.join(folder, name), "w") as f:
             f.write("".join(lines))
