@@ -1,8 +1,8 @@
 // Heartbeat and Open.
 ghost use Rattle.rules.specs.Reading.{readLayout};
 ghost use Rattle.fast_reading.specs.Answer.{ReadsAs};
-use crate::number;
 use crate::filled::first_six;
+use crate::number;
 use fields::text_end;
 use wire::Width;
 

@@ -9,9 +9,9 @@ use wire::Width;
 
 mod connection;
 mod consuming;
+mod filled;
 mod publishing;
 mod reading;
-mod filled;
 
 pub use reading::read;
 

@@ -1,9 +1,9 @@
 // What publishers send, and what confirms it.
 ghost use Rattle.rules.specs.Reading.{readLayout};
 ghost use Rattle.fast_reading.specs.Answer.{ReadsAs};
-use crate::number;
 use crate::filled::first_eight;
 use crate::filled::first_six;
+use crate::number;
 use fields::text_end;
 use lists::messages_end;
 use wire::Width;

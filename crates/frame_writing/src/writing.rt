@@ -10,13 +10,13 @@ ghost use Rattle.slots.specs.Unflat.{unflatFrame, writeFlat};
 ghost use Rattle.frame_writing.specs.Written.{writingOf, stepFrame};
 use crate::head::write_head;
 use fast_writing::Fast;
-use slot_fields::write_fields;
 use fields::Writer;
 use fields::over_limit;
-use slots::slot;
 use protocol::Decided;
 use protocol::Picked;
 use protocol::refusal;
+use slot_fields::write_fields;
+use slots::slot;
 use wire::Width;
 
 pub enum Written {

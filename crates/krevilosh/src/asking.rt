@@ -9,16 +9,16 @@ ghost use Rattle.rules.specs.Reading.{hasEntries};
 ghost use Rattle.questions.specs.Answer.{elementAnswer};
 ghost use Rattle.krevilosh.specs.Asked.{askElement, askMessage, askedHeader, askedSlots, flatMessage, shapeOf};
 ghost use Rattle.krevilosh.specs.Shapes.{kindIn, slotsIn};
-use questions::AskedElement;
-use questions::AskedPlace;
-use slots::element_slots;
-use slots::place_slots;
 use protocol::Chunk;
 use protocol::ChunkHeader;
 use protocol::Element;
 use protocol::Elements;
 use protocol::Place;
 use protocol::refusal;
+use questions::AskedElement;
+use questions::AskedPlace;
+use slots::element_slots;
+use slots::place_slots;
 
 pub enum Shape {
     Kind(Element),

@@ -10,9 +10,9 @@ ghost use Rattle.slots.specs.Flat as flat;
 ghost use Rattle.frame_reading.specs.Answer.{refusalOf};
 ghost use Rattle.krevilosh.specs.Answer.{refusalAnswer, NeededFits};
 use crate::packed;
+use credit_receiving::Received;
 use frame_reading::FrameRead;
 use protocol::refusal;
-use credit_receiving::Received;
 
 // The frame at the start of the bytes, under a frame limit, into the frame's slots.
 #[no_mangle]

@@ -15,11 +15,11 @@ ghost use Rattle.slot_fields.specs.Narrow.{narrow, narrowFits};
 ghost use Rattle.slot_fields.specs.Writing.{stepFlat};
 use chunks::write_chunk;
 use fields::Writer;
-use slots::place_of;
-use slots::slot;
 use protocol::Chunk;
 use protocol::ChunkHeader;
 use protocol::refusal;
+use slots::place_of;
+use slots::slot;
 use wire::Width;
 
 // A header number that is too wide for its field gives 10, with the type.

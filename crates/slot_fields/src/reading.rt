@@ -17,16 +17,16 @@ use fields::nullable_field;
 use fields::offset_field;
 use fields::string_field;
 use fields::unsigned_field;
-use slots::flat_chunk;
-use slots::flat_offset;
-use slots::place_or_null;
-use slots::put_slots;
-use slots::slots_of;
 use lists::list_field;
 use protocol::Element;
 use protocol::Form;
 use protocol::field;
 use protocol::refusal;
+use slots::flat_chunk;
+use slots::flat_offset;
+use slots::place_or_null;
+use slots::put_slots;
+use slots::slots_of;
 use wire::Width;
 
 // A content by its fields, then 11 if bytes are left. Only a content that is read changes the slots, and only if its fields'

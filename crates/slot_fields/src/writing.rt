@@ -19,18 +19,18 @@ use fields::write_nullable;
 use fields::write_number;
 use fields::write_offset;
 use fields::write_string;
-use slots::list_of;
-use slots::nullable_of;
-use slots::offset_of;
-use slots::place_of;
-use slots::slot;
-use slots::slots_of;
 use lists::write_list;
 use protocol::Element;
 use protocol::Form;
 use protocol::OffsetSpecification;
 use protocol::field;
 use protocol::refusal;
+use slots::list_of;
+use slots::nullable_of;
+use slots::offset_of;
+use slots::place_of;
+use slots::slot;
+use slots::slots_of;
 use wire::Width;
 
 // The fields of a layout, whose slots stand behind those of key and version.

@@ -7,10 +7,10 @@ ghost use Rattle.protocol.specs.Kinds.{elementRow};
 ghost use Rattle.questions.specs.Answer.{elementFields, kindOf};
 ghost use Rattle.slots.specs.Flat.{bits, flatElement, flatOctets, flatPlace, padded};
 use crate::to_slots::place_or_null;
-use questions::ListElement;
 use protocol::Elements;
 use protocol::NullablePlace;
 use protocol::Place;
+use questions::ListElement;
 
 pub fn element_slots(e: ListElement) -> [u64; 8]
     ensures { λ r. ⌜ r ≡ flatElement (elementRow (kindOf e)) (elementFields e) ⌝ }

@@ -1,9 +1,9 @@
 // The answers on standard output, a line each.
+use credit_receiving::Received;
 use frame_reading::FrameRead;
 use ledger::Change;
 use ledger::IdState;
 use libc::STDOUT_FILENO;
-use credit_receiving::Received;
 
 pub fn change(answer: Change) {
     match answer {

@@ -37,7 +37,11 @@ fn call(line: &[u8], credits: &mut [u32; 257], publishers: &mut [u32; 257])
         Word::Credit => answers::state(credit_ledger::state(credits, id)),
         Word::Declare => answers::change(publisher_ledger::declare(publishers, id)),
         Word::Delete => answers::change(publisher_ledger::delete(publishers, id)),
-        Word::Send => answers::change(publisher_ledger::send(publishers, id, (more % 4294967296) as u32)),
+        Word::Send => answers::change(publisher_ledger::send(
+            publishers,
+            id,
+            (more % 4294967296) as u32,
+        )),
         Word::Confirm => answers::change(publisher_ledger::confirm(
             publishers,
             id,

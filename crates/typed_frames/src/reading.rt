@@ -8,15 +8,15 @@ ghost use Rattle.protocol.specs.Frames.{chunkField, fieldsOf};
 ghost use Rattle.rules.specs.Reading.{readFrame};
 ghost use Rattle.typed_frames.specs.Answer.{answerOf};
 ghost use Rattle.typed_frames.specs.Typed.{typedFields, typedChunk};
-use slots::list_of;
-use slots::nullable_of;
-use slots::offset_of;
-use slots::place_of;
 use frame_reading::FrameRead;
 use protocol::Chunk;
 use protocol::ChunkHeader;
 use protocol::Frame;
 use protocol::ResponseCode;
+use slots::list_of;
+use slots::nullable_of;
+use slots::offset_of;
+use slots::place_of;
 
 pub enum Reading {
     Frame(Frame),

@@ -3,9 +3,9 @@ ghost use mathlib.Core.Path.{_≡_};
 ghost use Rattle.protocol.specs.Frames.{fieldsOf};
 ghost use Rattle.rules.specs.Writing.{writeFrame};
 ghost use Rattle.frame_writing.specs.Written.{writingOf};
-use typed_slots::frame_slots;
 use frame_writing::Written;
 use protocol::Frame;
+use typed_slots::frame_slots;
 
 // A frame whose places are in src, put at the start of out under a frame limit; 0 is no limit.
 pub fn write(frame: Frame, src: &[u8], limit: u32, out: &mut [u8]) -> Written

@@ -6,14 +6,14 @@ ghost use mathlib.Core.Path.{_≡_};
 ghost use Rattle.protocol.specs.Frames.{nullableField};
 ghost use Rattle.slots.specs.Flat.{flatHeader, flatOctets, flatOffset, flatPlace, padded};
 ghost use Rattle.slots.specs.Inverse.{SignedHeader, SignedOffset};
-use slots::flat_chunk;
-use slots::flat_offset;
-use slots::place_or_null;
 use protocol::Chunk;
 use protocol::Elements;
 use protocol::NullablePlace;
 use protocol::OffsetSpecification;
 use protocol::Place;
+use slots::flat_chunk;
+use slots::flat_offset;
+use slots::place_or_null;
 
 // No field.
 pub fn headed(key: u64, version: u64) -> [u64; 24]
