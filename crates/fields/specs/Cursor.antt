@@ -44,7 +44,7 @@ blank (signed n) = integer (pos 0)
 blank (string form true) = F.string none
 blank (string form false) = F.string (some (place 0 0))
 blank (specification admitsNone) = F.offset None
-blank (list row) = elements 0 (place 0 0)
+blank (list rule row) = elements 0 (place 0 0)
 blank chunk = F.chunk noHeader (place 0 0)
 
 -- A reader's answer: the field and the cursor behind it are those of an outcome; beside a refusal stands a blank.

@@ -98,7 +98,7 @@ putField (unsigned n most) src f h = behind (digits n (f .number)) h
 putField (signed n) src f h = behind (digits n (two's.unsigned n (f .integer))) h
 putField (string form nullable) src f h = putString (lengthWidth form) src (f .octets) h
 putField (specification admitsNone) src f h = putOffset (f .offset) h
-putField (list row) src f h = copiedBehind src (placeOf (f .octets)) (behind (digits 4 (f .number)) h)
+putField (list rule row) src f h = copiedBehind src (placeOf (f .octets)) (behind (digits 4 (f .number)) h)
 putField chunk src f h = copiedBehind src (placeOf (f .octets)) (putHeader (f .header) h)
 
 -- ---- What a writer does with a field, and with a row of fields in wire order

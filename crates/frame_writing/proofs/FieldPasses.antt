@@ -84,7 +84,7 @@ numbers-field (unsigned n most) src f = check (ltb most (f .number) || leb (256 
 numbers-field (signed n) src f = check (not (fitsSigned n (f .integer))) 9 _ tt
 numbers-field (string form nullable) src f = numbers-string form nullable src (f .octets)
 numbers-field (specification admitsNone) src f = numbers-offset admitsNone (f .offset)
-numbers-field (list row) src f = numbers-list row src (f .number) (placeOf (f .octets))
+numbers-field (list rule row) src f = numbers-list row src (f .number) (placeOf (f .octets))
 numbers-field chunk src f = numbers-chunk src (f .header) (placeOf (f .octets))
 
 -- ---- Pieces put one behind another
@@ -213,7 +213,7 @@ puts-field (signed n) src f b at out i h =
     put-pieces (digits n (two's.unsigned n (f .integer))) [] b at out (ap bytesOf (passed (not (fitsSigned n (f .integer))) _ _ b i .rest)) h
 puts-field (string form nullable) src f b at out i h = puts-string form nullable src (f .octets) b at out i h
 puts-field (specification admitsNone) src f b at out i h = puts-offset admitsNone (f .offset) b at out i h
-puts-field (list row) src f b at out i h = puts-list row src (f .number) (placeOf (f .octets)) b at out i h
+puts-field (list rule row) src f b at out i h = puts-list row src (f .number) (placeOf (f .octets)) b at out i h
 puts-field chunk src f b at out i h = puts-chunk src (f .header) (placeOf (f .octets)) b at out i h
 
 pub field-lawful : (k : Kind) (src : List ℕ) (f : Field Place) → Lawful (writeField k src f) (λ s. stepField k src f s)

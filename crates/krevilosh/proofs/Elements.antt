@@ -65,7 +65,7 @@ ShapedKind (unsigned n most) = Unit
 ShapedKind (signed n) = Unit
 ShapedKind (string form nullable) = Unit
 ShapedKind (specification admitsNone) = Unit
-ShapedKind (list row) = Shape row
+ShapedKind (list rule row) = Shape row
 ShapedKind chunk = Unit
 
 -- A row whose lists have elements of some kind.
@@ -93,7 +93,7 @@ Lists (unsigned n most · row) P = Lists row P
 Lists (signed n · row) P = Lists row P
 Lists (string form nullable · row) P = Lists row P
 Lists (specification admitsNone · row) P = Lists row P
-Lists (list elements · row) P = Shape elements × Lists row P
+Lists (list rule elements · row) P = Shape elements × Lists row P
 Lists (chunk · row) P = Lists row P
 
 shaped-lists : (row : Row) (P : Type 0) → Lists row P → Shaped row × P
@@ -102,7 +102,7 @@ shaped-lists (unsigned n most · row) P h = let r = shaped-lists row P h in ((tt
 shaped-lists (signed n · row) P h = let r = shaped-lists row P h in ((tt, r .0), r .1)
 shaped-lists (string form nullable · row) P h = let r = shaped-lists row P h in ((tt, r .0), r .1)
 shaped-lists (specification admitsNone · row) P h = let r = shaped-lists row P h in ((tt, r .0), r .1)
-shaped-lists (list elements · row) P (k, h) = let r = shaped-lists row P h in ((k, r .0), r .1)
+shaped-lists (list rule elements · row) P (k, h) = let r = shaped-lists row P h in ((k, r .0), r .1)
 shaped-lists (chunk · row) P h = let r = shaped-lists row P h in ((tt, r .0), r .1)
 
 abbrev AllLists : List Listing → Type 0
@@ -167,7 +167,7 @@ module _ (s : List ℕ) where
     field-asked (signed n) f c h = tt
     field-asked (string form nullable) f c h = tt
     field-asked (specification admitsNone) f c h = tt
-    field-asked (list row) f (k, e) (all, each) =
+    field-asked (list rule row) f (k, e) (all, each) =
         let found = each-as (λ x. RowFound s row x) (λ x. RowAsked s row x) (λ x h. row-asked row x (subst Shaped (sym e) (shaped-element k)) h) (all .elements) each in
         let (every, more) = list-asked row k f (λ x. RowAsked s row x) e all found in
         (k, e, every, more)

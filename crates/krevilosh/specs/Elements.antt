@@ -47,7 +47,7 @@ unfoldable mutual
   FieldAsked s (signed n) f = Unit
   FieldAsked s (string form nullable) f = Unit
   FieldAsked s (specification admitsNone) f = Unit
-  FieldAsked s (list row) f =
+  FieldAsked s (list rule row) f =
       (k : Element) × (row ≡ elementRow k) × (every : EveryElement s k (f .number) (placeOf (f .octets))) × Each (λ e. RowAsked s row e) (every .all .elements)
   FieldAsked s chunk f = Unit
 

@@ -55,7 +55,7 @@ module _ (row : Row) (s : List ℕ) (c : Cursor) (n : ℕ) (d e : Cursor) (a : C
   behind-count : List ℕ → ℕ → ℕ → ℕ → Outcome (Field Place)
   behind-count t at m next = then (repeated (readRow row) m t next) (λ _ last. got (elements m (place next (last - next))) last)
 
-  list-from : from (readField (list row)) s c ≡ then (from readCount s c) (behind-count s (c .at))
+  list-from : from (readField (list rule row)) s c ≡ then (from readCount s c) (behind-count s (c .at))
   unfolding readField readList behind-count
   list-from = from-then readCount behind-count s c
 
@@ -88,17 +88,17 @@ module _ (row : Row) (s : List ℕ) (c : Cursor) (n : ℕ) (d e : Cursor) (a : C
           let q : d ≡ cursor (c .base) p m = rw i at (a .1) in
           g m p i k (b ∙ ap (λ (x : Cursor). ends (readRow row) n s x) q ∙ ends-refused (readRow row) (λ t at. numbered-row row t at) s n (cursor (c .base) p m) k)
 
-  pub list-refused : (e .refused ≡ 0 → ⊥) → Reads (list row) s c (elements 0 (place 0 0)) e
+  pub list-refused : (e .refused ≡ 0 → ⊥) → Reads (list rule row) s c (elements 0 (place 0 0)) e
   list-refused h = by-count (λ k. by k (repeated (readRow row) n s (d .at)) refl) (λ m p i k q. refused-there (elements 0 (place 0 0)) (c .base) m p _ e (rw (list-from, i)) q)
     where
-      by : Counted → (o : Outcome Unit) → repeated (readRow row) n s (d .at) ≡ o → Reads (list row) s c (elements 0 (place 0 0)) e
+      by : Counted → (o : Outcome Unit) → repeated (readRow row) n s (d .at) ≡ o → Reads (list rule row) s c (elements 0 (place 0 0)) e
       by k (got _ last) i = absurd (h (ap (λ (x : Cursor). x .refused) (rw i at (k .elements-end))))
       by k (refused m p) i = refused-there (elements 0 (place 0 0)) (c .base) m p _ e (unfold behind-count in rw (list-from, k .is, i)) (rw i at (k .elements-end))
 
   pub record ListFound : Type 0 where
     pub first : d .at ≤ e .at
     pub inside : d .at ≤ length s
-    pub read : Reads (list row) s c (elements n (place (c .base + d .at) (e .at - d .at))) e
+    pub read : Reads (list rule row) s c (elements n (place (c .base + d .at) (e .at - d .at))) e
 
   pub list-found : e .refused ≡ 0 → ListFound
   list-found h = by-count (λ k. by k (repeated (readRow row) n s (d .at)) refl) (λ m p i k q. absurd (k (ap (λ (x : Cursor). x .refused) (sym q) ∙ h)))
@@ -133,5 +133,5 @@ module _ (row : Row) (s : List ℕ) (c : Cursor) (n : ℕ) (d e : Cursor) (a : C
           let z = rw i at (numbered-repeated (readRow row) (λ t at. numbered-row row t at) n s (d .at)) in
           absurd (z (ap (λ (x : Cursor). x .refused) (sym q) ∙ h))
 
-  pub list-landed : e ≡ landed (c .base) (from (readField (list row)) s c)
+  pub list-landed : e ≡ landed (c .base) (from (readField (list rule row)) s c)
   list-landed = by-refused e (λ h. list-found h .read .behind) (λ h. list-refused h .behind)

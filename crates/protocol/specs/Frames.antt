@@ -112,7 +112,7 @@ OfKind (unsigned w m) f = f ≡ number (f .number)
 OfKind (signed w) f = f ≡ integer (f .integer)
 OfKind (K.string form nullable) f = f ≡ string (f .octets)
 OfKind (specification admitsNone) f = f ≡ offset (f .offset)
-OfKind (list row) f = (p : Place) × (f ≡ elements (f .number) p)
+OfKind (list rule row) f = (p : Place) × (f ≡ elements (f .number) p)
 OfKind K.chunk f = (p : Place) × (f ≡ chunk (f .header) p)
 
 abbrev pub OfRow : Row → List (Field Place) → Type 0

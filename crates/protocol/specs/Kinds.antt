@@ -5,6 +5,10 @@ use Rattle.protocol.specs.declared.kind.Element.{Element}
 use Rattle.protocol.specs.declared.kind.Element.the-variants.{Message, FilteredMessage, PublishingId, PublishingError, Property, Name, CommandVersions, Broker, StreamMetadata, Statistic, BrokerReference}
 use Rattle.protocol.specs.declared.kind.Form.{Form}
 use Rattle.protocol.specs.declared.kind.Form.the-variants.{Text, Reference, Bytes}
+use Rattle.protocol.specs.declared.kind.Keys.the-variants.{MayRepeat}
+use Rattle.protocol.specs.declared.kind.ListKind.{ListKind}
+use Rattle.protocol.specs.declared.kind.ListRule.{ListRule}
+use Rattle.protocol.specs.declared.kind.Presence.the-variants.{Required}
 
 infixr 50 _·_
 -- The bytes of the length in front: int16 for text, int32 for bytes.
@@ -23,8 +27,8 @@ mutual
     string : Form → Bool → Kind
     -- an offset specification, and whether type 0 (none) is admitted
     specification : Bool → Kind
-    -- [x]: int32 count, then the elements
-    list : Row → Kind
+    -- [x]: int32 count, then the elements; and what the list admits
+    list : ListRule → Row → Kind
     -- a chunk, to the frame's end
     chunk : Kind
 
@@ -84,6 +88,10 @@ spec = specification false
 abbrev pub spec₀ : Kind
 spec₀ = specification true
 
+-- The rule of a list whose elements may be alike, and which is always there.
+abbrev pub plain : ListRule
+plain = record { keys = MayRepeat; presence = Required }
+
 -- The row of each kind of list element.
 abbrev pub elementRow : Element → Row
 elementRow Message = u64 · B · end
@@ -94,6 +102,13 @@ elementRow Property = T · T · end
 elementRow Name = T · end
 elementRow CommandVersions = u16 · u16 · u16 · end
 elementRow Broker = u16 · T · u32 · end
-elementRow StreamMetadata = T · u16 · u16 · list (u16 · end) · end
+elementRow StreamMetadata = T · u16 · u16 · list plain (u16 · end) · end
 elementRow Statistic = T · i64 · end
 elementRow BrokerReference = u16 · end
+
+abbrev pub plainList : Element → ListKind
+plainList e = record { element = e; rule = plain }
+
+-- A list by its kind in the code.
+abbrev pub listOf : ListKind → Kind
+listOf k = list (k .rule) (elementRow (k .element))

@@ -1,10 +1,13 @@
--- A layout in the code: six numbers, each for a kind of field or for none.
+-- A layout in the code is six numbers and a list's element four, each for a kind of field or for none.
 use mathlib.Core.List.{List, [], _∷_}
 use mathlib.Core.Option.{Option, none, some}
 use Prim.Native.Nat.{ℕ}
 use lib.ListN.{getD}
-use Rattle.protocol.specs.Kinds.{Kind, Row, end, _·_, list, chunk, u8, u16, u32, u64, active, T, R, R?, B?, spec, spec₀, elementRow}
-use Rattle.protocol.specs.declared.kind.Element.the-variants.{Message, FilteredMessage, PublishingId, PublishingError, Property, Name, CommandVersions, Broker, StreamMetadata, Statistic}
+use Rattle.protocol.specs.Kinds.{Kind, Row, end, _·_, list, plain, chunk, u8, u16, u32, u64, i64, active, T, T?, R, R?, B, B?, spec, spec₀, elementRow, unsigned, signed, string, specification, listOf}
+use Rattle.wire.specs.Integers.{widthOf}
+use Rattle.protocol.specs.declared.kind.FieldKind.{FieldKind}
+use Rattle.protocol.specs.declared.kind.FieldKind.the-variants.{Nothing, Unsigned, Signed, String, Specification, List as Listed, Chunk}
+use Rattle.protocol.specs.declared.kind.Element.the-variants.{Message, FilteredMessage, PublishingId, PublishingError, Property, Name, CommandVersions, Broker, StreamMetadata, Statistic, BrokerReference}
 
 -- The kinds that the numbers stand for, from 0 on.
 unfoldable pub kinds : List (Option Kind)
@@ -14,28 +17,42 @@ kinds =
     ∷ some u16
     ∷ some u32
     ∷ some u64
+    ∷ some i64
     ∷ some active
     ∷ some T
     ∷ some R
+    ∷ some B
+    ∷ some T?
     ∷ some R?
     ∷ some B?
     ∷ some spec
     ∷ some spec₀
     ∷ some chunk
-    ∷ some (list (elementRow Message))
-    ∷ some (list (elementRow FilteredMessage))
-    ∷ some (list (elementRow PublishingId))
-    ∷ some (list (elementRow PublishingError))
-    ∷ some (list (elementRow Property))
-    ∷ some (list (elementRow Name))
-    ∷ some (list (elementRow CommandVersions))
-    ∷ some (list (elementRow Broker))
-    ∷ some (list (elementRow StreamMetadata))
-    ∷ some (list (elementRow Statistic))
+    ∷ some (list plain (elementRow Message))
+    ∷ some (list plain (elementRow FilteredMessage))
+    ∷ some (list plain (elementRow PublishingId))
+    ∷ some (list plain (elementRow PublishingError))
+    ∷ some (list plain (elementRow Property))
+    ∷ some (list plain (elementRow Name))
+    ∷ some (list plain (elementRow CommandVersions))
+    ∷ some (list plain (elementRow Broker))
+    ∷ some (list plain (elementRow StreamMetadata))
+    ∷ some (list plain (elementRow Statistic))
+    ∷ some (list plain (elementRow BrokerReference))
     ∷ []
 
 abbrev pub kindOf : ℕ → Option Kind
 kindOf n = getD kinds n none
+
+-- What a kind in the code is.
+abbrev pub kindSaid : FieldKind → Option Kind
+kindSaid Nothing = none
+kindSaid (Unsigned width most) = some (unsigned (widthOf width) most)
+kindSaid Signed = some i64
+kindSaid (String form nullable) = some (string form nullable)
+kindSaid (Specification admitsNone) = some (specification admitsNone)
+kindSaid (Listed k) = some (listOf k)
+kindSaid Chunk = some chunk
 
 -- A kind in front of a row.
 abbrev pub front : Option Kind → Row → Row

@@ -1,4 +1,21 @@
-// What kinds of byte string and of list element there are.
+// What kinds of field there are, and what kinds of byte string, of list and of list element.
+ghost use mathlib.Core.Path.{_≡_};
+ghost use Rattle.protocol.specs.Kinds.{elementRow, plainList};
+ghost use Rattle.protocol.specs.Layouts.{kindOf, kindSaid, rowFrom};
+use crate::field;
+use wire::Width;
+
+// A kind of field.
+pub enum FieldKind {
+    Nothing,
+    // A number of a width, and the largest that is admitted.
+    Unsigned { width: Width, most: u64 },
+    Signed,
+    String { form: Form, nullable: bool },
+    Specification { admits_none: bool },
+    List(ListKind),
+    Chunk,
+}
 
 // A byte string's form: text T, a reference R (text of at most 256 bytes), or bytes B.
 pub enum Form {
@@ -31,4 +48,116 @@ pub enum Element {
     Statistic,
     // [u16]: the replicas in an element of Metadata's response
     BrokerReference,
+}
+
+// What a list admits.
+pub struct ListRule {
+    pub keys: Keys,
+    pub presence: Presence,
+}
+
+// Whether two elements of a list may have the same key.
+pub enum Keys {
+    MayRepeat,
+}
+
+// Whether a list may be left out at the frame's end.
+pub enum Presence {
+    Required,
+}
+
+// A kind of list: its elements, and its rule.
+pub struct ListKind {
+    pub element: Element,
+    pub rule: ListRule,
+}
+
+// The kind of field that a number stands for.
+pub fn field_kind(number: u8) -> FieldKind
+    ensures { λ r. ⌜ kindSaid r ≡ kindOf number ⌝ }
+{
+    match number {
+        field::U8 => unsigned(Width::One, 0xff),
+        field::U16 => unsigned(Width::Two, 0xffff),
+        field::U32 => unsigned(Width::Four, 0xffff_ffff),
+        field::U64 => unsigned(Width::Eight, 0xffff_ffff_ffff_ffff),
+        field::I64 => FieldKind::Signed,
+        field::ACTIVE => unsigned(Width::One, 1),
+        field::TEXT => string(Form::Text, false),
+        field::REFERENCE => string(Form::Reference, false),
+        field::BYTES => string(Form::Bytes, false),
+        field::NULLABLE_TEXT => string(Form::Text, true),
+        field::NULLABLE_REFERENCE => string(Form::Reference, true),
+        field::NULLABLE_BYTES => string(Form::Bytes, true),
+        field::SPECIFICATION => FieldKind::Specification { admits_none: false },
+        field::SPECIFICATION_OR_NONE => FieldKind::Specification { admits_none: true },
+        field::CHUNK => FieldKind::Chunk,
+        field::MESSAGES => list(Element::Message),
+        field::FILTERED_MESSAGES => list(Element::FilteredMessage),
+        field::PUBLISHING_IDS => list(Element::PublishingId),
+        field::PUBLISHING_ERRORS => list(Element::PublishingError),
+        field::PROPERTIES => list(Element::Property),
+        field::NAMES => list(Element::Name),
+        field::COMMAND_VERSIONS => list(Element::CommandVersions),
+        field::BROKERS => list(Element::Broker),
+        field::STREAMS => list(Element::StreamMetadata),
+        field::STATISTICS => list(Element::Statistic),
+        field::BROKER_REFERENCES => list(Element::BrokerReference),
+        _ => FieldKind::Nothing,
+    }
+}
+
+fn unsigned(width: Width, most: u64) -> FieldKind
+    ensures { λ r. ⌜ r ≡ FieldKind.Unsigned width most ⌝ }
+{
+    FieldKind::Unsigned {
+        width: width,
+        most: most,
+    }
+}
+
+fn string(form: Form, nullable: bool) -> FieldKind
+    ensures { λ r. ⌜ r ≡ FieldKind.String form nullable ⌝ }
+{
+    FieldKind::String {
+        form: form,
+        nullable: nullable,
+    }
+}
+
+// A list whose elements may be alike, and which is always there.
+fn list(element: Element) -> FieldKind
+    ensures { λ r. ⌜ r ≡ FieldKind.List (plainList element) ⌝ }
+{
+    FieldKind::List(ListKind {
+        element: element,
+        rule: ListRule {
+            keys: Keys::MayRepeat,
+            presence: Presence::Required,
+        },
+    })
+}
+
+// The fields of an element, in wire order, with NONE behind the last. No element has more than four.
+pub fn element_fields(kind: Element) -> [u8; 4]
+    ensures { λ r. ⌜ rowFrom r ≡ elementRow kind ⌝ }
+{
+    match kind {
+        Element::Message => [field::U64, field::BYTES, field::NONE, field::NONE],
+        Element::FilteredMessage => [field::U64, field::NULLABLE_TEXT, field::BYTES, field::NONE],
+        Element::PublishingId => [field::U64, field::NONE, field::NONE, field::NONE],
+        Element::PublishingError => [field::U64, field::U16, field::NONE, field::NONE],
+        Element::Property => [field::TEXT, field::TEXT, field::NONE, field::NONE],
+        Element::Name => [field::TEXT, field::NONE, field::NONE, field::NONE],
+        Element::CommandVersions => [field::U16, field::U16, field::U16, field::NONE],
+        Element::Broker => [field::U16, field::TEXT, field::U32, field::NONE],
+        Element::StreamMetadata => [
+            field::TEXT,
+            field::U16,
+            field::U16,
+            field::BROKER_REFERENCES,
+        ],
+        Element::Statistic => [field::TEXT, field::I64, field::NONE, field::NONE],
+        Element::BrokerReference => [field::U16, field::NONE, field::NONE, field::NONE],
+    }
 }

@@ -251,7 +251,7 @@ module _ (s : List ℕ) where
     field-found (signed n) last f c v i = tt
     field-found (string form nullable) last f c v i = tt
     field-found (specification admitsNone) last f c v i = tt
-    field-found (list row) last f c (b, e, l, pieces) i =
+    field-found (list rule row) last f c (b, e, l, pieces) i =
         let at = placed s (f .octets) b (ap (λ v. v .octets) e) i in
         let r = all-elements s (placeOf (f .octets)) (at .1) row c (f .number) (subst (Pieces (Element row) (f .number)) (sym (at .0)) pieces) in
         (r .0, each-of (Known s (placeOf (f .octets)) (at .1) row c) (λ fs. RowFound s row fs) (λ fs k. row-found row false fs c (k .0) (k .1)) (r .0 .elements) (r .1))

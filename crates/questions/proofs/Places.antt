@@ -56,7 +56,7 @@ blank-ends n (signed w) = tt
 blank-ends n (string form true) = tt
 blank-ends n (string form false) = omega arith
 blank-ends n (specification admitsNone) = tt
-blank-ends n (list row) = omega arith
+blank-ends n (list rule row) = omega arith
 blank-ends n chunk = omega arith
 
 -- The place in a field that was read at a cursor ends with the part or before.

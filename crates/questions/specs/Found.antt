@@ -81,7 +81,7 @@ unfoldable mutual
   FieldFound s (signed n) f = Unit
   FieldFound s (string form nullable) f = Unit
   FieldFound s (specification admitsNone) f = Unit
-  FieldFound s (list row) f =
+  FieldFound s (list rule row) f =
       (all : AllElements s row (f .number) (placeOf (f .octets))) × Each (λ e. RowFound s row e) (all .elements)
   FieldFound s chunk f = AllMessages s (f .header) (placeOf (f .octets))
 

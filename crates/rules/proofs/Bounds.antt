@@ -188,7 +188,7 @@ mutual
   bounded-field (signed n) s at = behind s n at _ (λ x next h i. (h, i))
   bounded-field (string form nullable) s at = behind s (lengthWidth form) at _ (λ x next h i. bounded-body s form nullable at (two's.signed (lengthWidth form) x) next h i)
   bounded-field (specification admitsNone) s at = behind s 2 at _ (λ type next h i. bounded-typed s admitsNone at type next h i)
-  bounded-field (list row) s at = bounded-list s (λ t from. readRow row t from) (λ from. bounded-row row s from) at
+  bounded-field (list rule row) s at = bounded-list s (λ t from. readRow row t from) (λ from. bounded-row row s from) at
   bounded-field chunk s at = bounded-chunk s at
 
   pub bounded-row : (row : Row) (s : List ℕ) (at : ℕ) → Bounded s at (readRow row s at)

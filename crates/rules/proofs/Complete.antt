@@ -54,10 +54,10 @@ mutual
       subst (λ u. Reads s next u (readField (string form nullable) s at)) (sym e) (string-read s form nullable (v .octets) at next l p)
   field-read (specification admitsNone) s last v at next c r (e, l) p =
       subst (λ u. Reads s next u (readField (specification admitsNone) s at)) (sym e) (specification-read s admitsNone (v .offset) at next l p)
-  field-read (list row) s last v at next c r (b, e, l, pieces) p =
-      subst (λ u. Reads s next u (readField (list row) s at)) (sym e)
+  field-read (list rule row) s last v at next c r (b, e, l, pieces) p =
+      subst (λ u. Reads s next u (readField (list rule row) s at)) (sym e)
       (list-read s (Element row) (readRow row) (element-read row s (λ vs from to valid part. row-read row s false vs from to c (λ f. absurd (differ f)) valid part)) (v .number) b at next l pieces
-      (subst (λ u. Part s at (encode (list row) u) next) e p))
+      (subst (λ u. Part s at (encode (list rule row) u) next) e p))
   field-read chunk s last v at next c r (b, e, l) p =
       subst (λ n. Reads s n v (readChunk s at)) (sym (r c))
       (subst (λ u. Reads s (length s) u (readChunk s at)) (sym e)

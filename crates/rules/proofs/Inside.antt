@@ -92,7 +92,7 @@ module _ (s : List ℕ) where
   inside-field (signed n) at = after-number Ends n s at _ (λ _. tt)
   inside-field (string form nullable) at = after-number Ends (lengthWidth form) s at _ (λ _. inside-body form nullable at (two's.signed (lengthWidth form) (bigEndian (lengthWidth form) s at)) (at + lengthWidth form))
   inside-field (specification admitsNone) at = after-number Ends 2 s at _ (λ _. inside-typed admitsNone at (bigEndian 2 s at) (at + 2))
-  inside-field (list row) at = inside-list (λ t from. readRow row t from) (λ from. bounded-row row s from) at
+  inside-field (list rule row) at = inside-list (λ t from. readRow row t from) (λ from. bounded-row row s from) at
   inside-field chunk at = inside-chunk at
 
   abbrev AllEnd : List (Field Place) → ℕ → Type 0

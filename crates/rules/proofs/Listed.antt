@@ -81,7 +81,7 @@ abbrev mutual
   wide (signed n) = ltb 0 n
   wide (string form nullable) = true
   wide (specification admitsNone) = true
-  wide (list row) = wideRow row
+  wide (list rule row) = wideRow row
   wide chunk = true
 
   pub wideRow : Row → Bool
@@ -99,7 +99,7 @@ abbrev mutual
   chunkLast last (signed n) = true
   chunkLast last (string form nullable) = true
   chunkLast last (specification admitsNone) = true
-  chunkLast last (list row) = chunkLastIn false row
+  chunkLast last (list rule row) = chunkLastIn false row
   chunkLast last chunk = last
 
   pub chunkLastIn : Bool → Row → Bool

@@ -116,7 +116,7 @@ field-right (unsigned n most) src f = checked-right (ltb most (f .number) || leb
 field-right (signed n) src f = checked-right (not (fitsSigned n (f .integer))) 10 _ tt tt
 field-right (string form nullable) src f = string-right form nullable src (f .octets)
 field-right (specification b) src f = offset-right b (f .offset)
-field-right (list row) src f = list-right row src (f .number) (placeOf (f .octets))
+field-right (list rule row) src f = list-right row src (f .number) (placeOf (f .octets))
 field-right chunk src f = chunk-right src (f .header) (placeOf (f .octets))
 
 followed-right : (a b : Encoding) → FieldRight a → FieldRight b → FieldRight (followed a b)

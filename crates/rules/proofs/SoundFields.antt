@@ -152,11 +152,11 @@ module _ (s : List ℕ) (b : Bytes s) where
       (λ fs next r. (encodeRow row (map (valueIn s) fs), (map (valueIn s) fs, r .0, refl), r .1))
       (g at h)
 
-  pub sound-list : (row : Row) → ((at : ℕ) → at ≤ length s → Gives (RowSound row at) (readRow row s at)) → (at : ℕ) → Gives (Sound (list row) at) (readList (λ t from. readRow row t from) s at)
+  pub sound-list : (row : Row) → ((at : ℕ) → at ≤ length s → Gives (RowSound row at) (readRow row s at)) → (at : ℕ) → Gives (Sound (list rule row) at) (readList (λ t from. readRow row t from) s at)
   unfolding readList Valid
   sound-list row g at =
-      after (Sound (list row) at) (λ n next. Length 4 n × Part s at (digits 4 n) next) (readCount s at) _ (sound-count at) (λ n next c.
-      after (Sound (list row) at) (Pieced (Element row) n next) (repeated (λ t from. readRow row t from) n s next) _
+      after (Sound (list rule row) at) (λ n next. Length 4 n × Part s at (digits 4 n) next) (readCount s at) _ (sound-count at) (λ n next c.
+      after (Sound (list rule row) at) (Pieced (Element row) n next) (repeated (λ t from. readRow row t from) n s next) _
       (sound-repeated (Element row) (λ t from. readRow row t from) (sound-element row g) n next (c .1 .within))
       (λ _ last p.
       let t : take (last - next) (drop next s) ≡ p .0 = taken s next last (last - next) (p .0) (p .2) (ends next (p .0) last (p .2)) in

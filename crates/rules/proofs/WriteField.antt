@@ -140,7 +140,7 @@ writes-field (unsigned n most) src f last c i (e, m, l) = writes-unsigned n most
 writes-field (signed n) src f last c i (e, l) = writes-signed n (f .integer) l
 writes-field (string form nullable) src f last c i (e, v) = writes-string form nullable src (f .octets) i v
 writes-field (specification admitsNone) src f last c i (e, v) = writes-offset admitsNone (f .offset) v
-writes-field (list row) src f last c i (b, e, l, pieces) =
+writes-field (list rule row) src f last c i (b, e, l, pieces) =
     let at = placed src (f .octets) b (ap (λ v. v .octets) e) i in
     writes-list row src (f .number) (placeOf (f .octets)) c (at .1) l (subst (Pieces (Element row) (f .number)) (sym (at .0)) pieces)
     ∙ ap (λ t. wrote (digits 4 (f .number) ++ t)) (sym (at .2))
@@ -330,7 +330,7 @@ written-field (string form nullable) src bytes f b w e h =
 written-field (specification admitsNone) src bytes f b w e h =
     let t = written-offset admitsNone (f .offset) b h in
     (subst (λ o. EndsBy (length src) o) (sym (ap (λ g. g .octets) e)) tt, (ap (valueIn src) e, t .0), t .1)
-written-field (list row) src bytes f b w (p, e) h =
+written-field (list rule row) src bytes f b w (p, e) h =
     let o : f .octets ≡ some p = ap (λ g. g .octets) e in
     let t = written-list row src bytes (f .number) p b w (ap (λ q. writeList row src (f .number) (placeOf q)) (sym o) ∙ h) in
     (rw o (t .0), (bytesAt src p, ap (valueIn src) e, t .1, t .2), rw o (t .3))

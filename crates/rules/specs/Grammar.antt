@@ -66,7 +66,7 @@ encode (unsigned n most) v = digits n (v .number)
 encode (signed n) v = digits n (two's.unsigned n (v .integer))
 encode (string form nullable) v = encodeString (lengthWidth form) (v .octets)
 encode (specification admitsNone) v = encodeOffset (v .offset)
-encode (list row) v = digits 4 (v .number) ++ body (v .octets)
+encode (list rule row) v = digits 4 (v .number) ++ body (v .octets)
 encode chunk v = encodeHeader (v .header) ++ body (v .octets)
 
 abbrev pub encodeRow : Row → List Value → List ℕ
@@ -144,7 +144,7 @@ unfoldable mutual
   Valid (signed n) v = (v ≡ integer (v .integer)) × two's.Signed n (v .integer)
   Valid (string form nullable) v = (v ≡ F.string (v .octets)) × ValidString form nullable (v .octets)
   Valid (specification admitsNone) v = (v ≡ F.offset (v .offset)) × ValidOffset admitsNone (v .offset)
-  Valid (list row) v =
+  Valid (list rule row) v =
       (b : List ℕ) × (v ≡ elements (v .number) b) × Length 4 (v .number)
       × Pieces (λ a. (vs : List Value) × ValidRow row vs × (a ≡ encodeRow row vs)) (v .number) b
   Valid chunk v = (b : List ℕ) × (v ≡ F.chunk (v .header) b) × ValidChunk (v .header) b

@@ -174,7 +174,7 @@ unfoldable mutual
   readField (signed n) s at = readSigned n s at
   readField (string form nullable) s at = readString form nullable s at
   readField (specification admitsNone) s at = readSpecification admitsNone s at
-  readField (list row) s at = readList (λ t from. readRow row t from) s at
+  readField (list rule row) s at = readList (λ t from. readRow row t from) s at
   readField chunk s at = readChunk s at
 
   pub readRow : Row → List ℕ → ℕ → Outcome (List (Field Place))

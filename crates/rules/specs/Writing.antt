@@ -124,7 +124,7 @@ writeField (unsigned n most) src f = writeUnsigned n most (f .number)
 writeField (signed n) src f = writeSigned n (f .integer)
 writeField (string form nullable) src f = writeString form nullable src (f .octets)
 writeField (specification admitsNone) src f = writeOffset admitsNone (f .offset)
-writeField (list row) src f = writeList row src (f .number) (placeOf (f .octets))
+writeField (list rule row) src f = writeList row src (f .number) (placeOf (f .octets))
 writeField chunk src f = writeChunk src (f .header) (placeOf (f .octets))
 
 abbrev pub writeRow : Row → List ℕ → List (Field Place) → Encoding

@@ -30,7 +30,7 @@ plain (unsigned n most) = true
 plain (signed n) = false
 plain (string form nullable) = true
 plain (specification admitsNone) = true
-plain (list row) = true
+plain (list rule row) = true
 plain chunk = true
 
 abbrev pub plainRow : Row → Bool
@@ -98,7 +98,7 @@ module _ (s : List ℕ) where
   of-kind (signed n) f v = parts f (integer (f .integer)) (v .0) (no-place (f .octets) (octets-of _ _ (v .0)))
   of-kind (string form nullable) f v = parts f (F.string (f .octets)) (v .0) refl
   of-kind (specification b) f v = parts f (F.offset (f .offset)) (v .0) (no-place (f .octets) (octets-of _ _ (v .0)))
-  of-kind (list row) f (b, e, l, x) =
+  of-kind (list rule row) f (b, e, l, x) =
       let p = some-place (f .octets) b (octets-of _ _ e) in
       (p .0, parts f (elements (f .number) (p .0)) (e ∙ sym (ap (elements (f .number)) (p .2))) (p .1))
   of-kind chunk f (b, e, x) =
@@ -111,7 +111,7 @@ module _ (s : List ℕ) where
   signed-field (signed n) f p v = absurd (differ p)
   signed-field (string form nullable) f p v = tt
   signed-field (specification b) f p v = offset-fits b (f .offset) (v .1)
-  signed-field (list row) f p v = tt
+  signed-field (list rule row) f p v = tt
   signed-field chunk f p v = header-fits (f .header) (v .2 .header)
 
   -- The values of a row, one by one.

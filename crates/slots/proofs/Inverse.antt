@@ -67,7 +67,7 @@ field-back (unsigned n most) f rest o h t = sym o
 field-back (signed n) f rest o h t = ap (λ (z : ℤ). integer z) (twos-complement 7 .signed-unsigned (f .integer) h) ∙ sym o
 field-back (string form nullable) f rest o h t = ap (λ (x : Option Place). F.string x) (octets-back nullable (f .octets) rest t) ∙ sym o
 field-back (specification b) f rest o h t = ap (λ (x : OffsetSpecification). F.offset x) (offset-back (f .offset) b rest h) ∙ sym o
-field-back (list row) f rest (p, e) h t = rw e
+field-back (list rule row) f rest (p, e) h t = rw e
 field-back chunk f rest (p, e) h t = rw e (ap (λ (x : ChunkHeader). F.chunk x p) (header-back (f .header) (flatPlace p ++ rest) h))
 
 pub field-behind : (kind : Kind) (f : Field Place) (rest : List ℕ) → drop (slotsOf kind) (flatField kind f ++ rest) ≡ rest
@@ -75,7 +75,7 @@ field-behind (unsigned n most) f rest = refl
 field-behind (signed n) f rest = refl
 field-behind (string form nullable) f rest = octets-behind nullable (f .octets) rest
 field-behind (specification b) f rest = offset-behind (f .offset) rest
-field-behind (list row) f rest = refl
+field-behind (list rule row) f rest = refl
 field-behind chunk f rest = refl
 
 row-back : (row : Row) (fs : List (Field Place)) (rest : List ℕ) → OfRow row fs → SignedRow row fs → ToldRow row fs → unflatRow row (flatRow row fs ++ rest) ≡ fs
@@ -120,7 +120,7 @@ field-written (unsigned n most) src f rest o h = refl
 field-written (signed n) src f rest o h = ap (writeSigned n) (twos-complement 7 .signed-unsigned (f .integer) h)
 field-written (string form nullable) src f rest o h = octets-written form nullable src (f .octets) rest
 field-written (specification b) src f rest o h = ap (writeOffset b) (offset-back (f .offset) b rest h)
-field-written (list row) src f rest (p, e) h = rw e
+field-written (list rule row) src f rest (p, e) h = rw e
 field-written chunk src f rest (p, e) h = rw e (ap (λ (x : ChunkHeader). writeChunk src x p) (header-back (f .header) (flatPlace p ++ rest) h))
 
 row-written : (row : Row) (src : List ℕ) (fs : List (Field Place)) (rest : List ℕ) → OfRow row fs → SignedRow row fs → writeRow row src (unflatRow row (flatRow row fs ++ rest)) ≡ writeRow row src fs

@@ -52,5 +52,5 @@ field-slots (unsigned n most) f = refl
 field-slots (signed n) f = refl
 field-slots (string form nullable) f = octets-slots nullable (f .octets)
 field-slots (specification b) f = offset-slots (f .offset)
-field-slots (list row) f = refl
+field-slots (list rule row) f = refl
 field-slots chunk f = refl

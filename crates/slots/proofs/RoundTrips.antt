@@ -62,7 +62,7 @@ of-slots-kind (unsigned n most) x = refl
 of-slots-kind (signed n) x = refl
 of-slots-kind (string form nullable) x = refl
 of-slots-kind (specification b) x = refl
-of-slots-kind (list row) x = (place (slot x 1) (slot x 2), refl)
+of-slots-kind (list rule row) x = (place (slot x 1) (slot x 2), refl)
 of-slots-kind chunk x = (place (slot x 12) (slot x 13), refl)
 
 of-slots : (row : Row) (x : List ℕ) → OfRow row (unflatRow row x)
@@ -176,7 +176,7 @@ module _ (src : List ℕ) where
   field-bytes (signed n) x p w i v = absurd (differ p)
   field-bytes (string form nullable) x p w i v = string-bytes form nullable (slot x 0) (slot x 1) i (v .1)
   field-bytes (specification b) x p w i v = offset-bytes x b w (v .1)
-  field-bytes (list row) x p w i v = refl
+  field-bytes (list rule row) x p w i v = refl
   field-bytes chunk x p w i v = ap (λ h. h ++ partOf src (slot x 12) (slot x 13)) (header-bytes x w (v .2 .header))
 
   row-bytes : (row : Row) (x : List ℕ) → plainRow row ≡ true → Words x → PlacesEndBy (len src) (unflatRow row x) → ValidRow row (map (valueIn src) (unflatRow row x)) → bytesOfRow row x src ≡ encodeRow row (map (valueIn src) (unflatRow row x))
@@ -252,7 +252,7 @@ module _ (src : List ℕ) where
     same-field (specification b) x g rest p w i v j e =
         subst (λ o. SameOffset (slot x 0) (slot x 1) (slot (flatOffset o ++ rest) 0) (slot (flatOffset o ++ rest) 1)) (sym (ap (λ (z : Value). z .offset) e))
         (same-offset x b rest w (v .1))
-    same-field (list row) x g rest p w i v j e =
+    same-field (list rule row) x g rest p w i v j e =
         let (q, is, s) = same-place (g .octets) (place (slot x 1) (slot x 2)) i j (ap (λ (z : Value). z .octets) e) in
         (sym (ap (λ (z : Value). z .number) e), subst (λ o. SamePart (slot x 1) (slot x 2) src (placeOf o .at) (placeOf o .len) after) (sym is) s)
     same-field chunk x g rest p w i v j e =

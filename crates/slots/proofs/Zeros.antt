@@ -55,7 +55,7 @@ module _ (m : ℕ) (below : m < nullLength) where
   field-zero (signed n) f rest i = tt
   field-zero (string form nullable) f rest i = octets-zero nullable (f .octets) rest i
   field-zero (specification b) f rest i = offset-zero (f .offset) rest
-  field-zero (list row) f rest i = tt
+  field-zero (list rule row) f rest i = tt
   field-zero chunk f rest i = tt
 
   row-zero : (row : Row) (fs : List (Field Place)) (rest : List ℕ) → ((i : ℕ) → slot rest i ≡ 0) → OfRow row fs → PlacesEndBy m fs → ZeroRow row (flatRow row fs ++ rest)

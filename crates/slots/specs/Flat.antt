@@ -74,7 +74,7 @@ flatField (unsigned n most) f = f .number ∷ []
 flatField (signed n) f = bits (f .integer) ∷ []
 flatField (string form nullable) f = flatOctets nullable (f .octets)
 flatField (specification admitsNone) f = flatOffset (f .offset)
-flatField (list row) f = f .number ∷ flatPlace (placeOf (f .octets))
+flatField (list rule row) f = f .number ∷ flatPlace (placeOf (f .octets))
 flatField chunk f = flatHeader (f .header) ++ flatPlace (placeOf (f .octets))
 
 -- The fields of a row, in wire order.

@@ -38,7 +38,7 @@ SignedField (unsigned n most) f = Unit
 SignedField (signed n) f = two's.Signed 8 (f .integer)
 SignedField (string form nullable) f = Unit
 SignedField (specification admitsNone) f = SignedOffset (f .offset)
-SignedField (list row) f = Unit
+SignedField (list rule row) f = Unit
 SignedField chunk f = SignedHeader (f .header)
 
 abbrev pub SignedRow : Row → List (Field Place) → Type 0
@@ -61,7 +61,7 @@ ToldField (unsigned n most) f = Unit
 ToldField (signed n) f = Unit
 ToldField (string form nullable) f = ToldOctets nullable (f .octets)
 ToldField (specification admitsNone) f = Unit
-ToldField (list row) f = Unit
+ToldField (list rule row) f = Unit
 ToldField chunk f = Unit
 
 abbrev pub ToldRow : Row → List (Field Place) → Type 0

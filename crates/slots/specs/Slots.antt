@@ -52,7 +52,7 @@ bytesOfField (unsigned n most) x b = digits n (slot x 0)
 bytesOfField (signed n) x b = digits n (slot x 0)
 bytesOfField (string form nullable) x b = bytesOfString (lengthWidth form) (slot x 0) (slot x 1) b
 bytesOfField (specification admitsNone) x b = bytesOfOffset (slot x 0) (slot x 1)
-bytesOfField (list row) x b = digits 4 (slot x 0) ++ partOf b (slot x 1) (slot x 2)
+bytesOfField (list rule row) x b = digits 4 (slot x 0) ++ partOf b (slot x 1) (slot x 2)
 bytesOfField chunk x b = bytesOfHeader x ++ partOf b (slot x 12) (slot x 13)
 
 abbrev pub bytesOfRow : Row → List ℕ → List ℕ → List ℕ
@@ -94,7 +94,7 @@ SameField (unsigned n most) x b y c = slot x 0 ≡ slot y 0
 SameField (signed n) x b y c = slot x 0 ≡ slot y 0
 SameField (string form nullable) x b y c = SameString (slot x 0) (slot x 1) b (slot y 0) (slot y 1) c
 SameField (specification admitsNone) x b y c = SameOffset (slot x 0) (slot x 1) (slot y 0) (slot y 1)
-SameField (list row) x b y c = (slot x 0 ≡ slot y 0) × SamePart (slot x 1) (slot x 2) b (slot y 1) (slot y 2) c
+SameField (list rule row) x b y c = (slot x 0 ≡ slot y 0) × SamePart (slot x 1) (slot x 2) b (slot y 1) (slot y 2) c
 SameField chunk x b y c = SameChunk x b y c
 
 abbrev pub SameRow : Row → List ℕ → List ℕ → List ℕ → List ℕ → Type 0
@@ -115,7 +115,7 @@ ZeroField (unsigned n most) x = Unit
 ZeroField (signed n) x = Unit
 ZeroField (string form nullable) x = slot x 1 ≡ nullLength → slot x 0 ≡ 0
 ZeroField (specification admitsNone) x = slot x 0 < 4 → slot x 1 ≡ 0
-ZeroField (list row) x = Unit
+ZeroField (list rule row) x = Unit
 ZeroField chunk x = Unit
 
 -- So are all slots after those of the last field.

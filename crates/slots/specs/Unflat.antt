@@ -65,7 +65,7 @@ slotsOf (unsigned n most) = 1
 slotsOf (signed n) = 1
 slotsOf (string form nullable) = 2
 slotsOf (specification admitsNone) = 2
-slotsOf (list row) = 3
+slotsOf (list rule row) = 3
 slotsOf chunk = 14
 
 -- Of what is no field, none.
@@ -84,7 +84,7 @@ unflatField (unsigned n most) s = number (slot s 0)
 unflatField (signed n) s = integer (two's.signed 8 (slot s 0))
 unflatField (string form nullable) s = F.string (unflatOctets nullable (slot s 0) (slot s 1))
 unflatField (specification admitsNone) s = F.offset (unflatOffset admitsNone (slot s 0) (slot s 1))
-unflatField (list row) s = elements (slot s 0) (place (slot s 1) (slot s 2))
+unflatField (list rule row) s = elements (slot s 0) (place (slot s 1) (slot s 2))
 unflatField chunk s = F.chunk (unflatHeader s) (place (slot s 12) (slot s 13))
 
 abbrev pub unflatRow : Row → List ℕ → List (Field Place)

@@ -88,7 +88,7 @@ module _ (s : List ℕ) (m : ℕ) (below : m < nullLength) where
   field-back (signed n) f rest p v i = absurd (differ p)
   field-back (string form nullable) f rest p v i = ap F.string (octets-back nullable (f .octets) rest (told-octets s m below form nullable (f .octets) (v .1) i)) ∙ sym (of-kind s (string form nullable) f v)
   field-back (specification b) f rest p v i = ap F.offset (offset-back (f .offset) false rest (offset-fits b (f .offset) (v .1))) ∙ sym (of-kind s (specification b) f v)
-  field-back (list row) f rest p v i = let o = of-kind s (list row) f v in rw (o .1)
+  field-back (list rule row) f rest p v i = let o = of-kind s (list rule row) f v in rw (o .1)
   field-back chunk f rest p v i = let o = of-kind s chunk f v in rw (o .1) (ap (λ (x : ChunkHeader). F.chunk x (o .0)) (header-back (f .header) (flatPlace (o .0) ++ rest) (v .2 .header)))
 
   -- The fields of a row, each of which comes back from its own slots.
@@ -123,7 +123,7 @@ module _ (front slots : List ℕ) where
   field-behind (signed n) = rw first
   field-behind (string form nullable) = rw (first, next 1)
   field-behind (specification b) = rw (first, next 1)
-  field-behind (list row) = rw (first, next 1, next 2)
+  field-behind (list rule row) = rw (first, next 1, next 2)
   field-behind chunk = rw (first, next 1, next 2, next 3, next 4, next 5, next 6, next 7, next 8, next 9, next 10, next 11, next 12, next 13)
 
 row-back : (s : List ℕ) (m : ℕ) (below : m < nullLength) (row : Row) (fs : List (Field Place)) (front rest : List ℕ) → Back s m below row fs → typedRow row (length front) (front ++ (flatRow row fs ++ rest)) ≡ fs

@@ -44,7 +44,7 @@ typedField (unsigned n most) at s = number (cut most (getD s at 0))
 typedField (signed n) at s = integer (two's.signed 8 (getD s at 0))
 typedField (string form nullable) at s = F.string (unflatOctets nullable (getD s at 0) (getD s (at + 1) 0))
 typedField (specification admitsNone) at s = F.offset (unflatOffset false (getD s at 0) (getD s (at + 1) 0))
-typedField (list row) at s = elements (getD s at 0) (place (getD s (at + 1) 0) (getD s (at + 2) 0))
+typedField (list rule row) at s = elements (getD s at 0) (place (getD s (at + 1) 0) (getD s (at + 2) 0))
 typedField chunk at s = typedChunk at s
 
 abbrev pub typedRow : Row → ℕ → List ℕ → List (Field Place)

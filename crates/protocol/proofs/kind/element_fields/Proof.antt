@@ -1,0 +1,33 @@
+-- The row is computed, kind by kind.
+use borrow.Author.Needs.{needs}
+use Rattle.protocol.specs.Layouts.{kinds, rowFrom}
+use Rattle.protocol.proofs.kind.element_fields.Statement.{statement}
+use Rattle.protocol.proofs.kind.element_fields.Tie as tie
+
+pub element-fields-spec : {M : Type 1} → statement M
+unfolding rowFrom kinds
+element-fields-spec =
+    tie.close
+    (tie.spec
+    (λ c. search needs)
+    (λ c. search needs)
+    (λ c. search needs)
+    (λ c. search needs)
+    (λ c. search needs)
+    (λ c. search needs)
+    (λ c. search needs)
+    (λ c. search needs)
+    (λ c. search needs)
+    (λ c. search needs)
+    (λ c. search needs)
+    (λ c. rw (c .enum-told .given .1))
+    (λ c. rw (c .enum-told2 .given .1))
+    (λ c. rw (c .enum-told3 .given .1))
+    (λ c. rw (c .enum-told4 .given .1))
+    (λ c. rw (c .enum-told5 .given .1))
+    (λ c. rw (c .enum-told6 .given .1))
+    (λ c. rw (c .enum-told7 .given .1))
+    (λ c. rw (c .enum-told8 .given .1))
+    (λ c. rw (c .enum-told9 .given .1))
+    (λ c. rw (c .enum-told10 .given .1))
+    (λ c. rw (c .enum-told11 .given .1)))
