@@ -36,7 +36,7 @@ mutual
   sound-field (signed (suc n)) s b at w = sound-signed s b n at
   sound-field (string form nullable) s b at w = sound-string s b form nullable at
   sound-field (specification admitsNone) s b at w = sound-specification s b admitsNone at
-  sound-field (list rule row) s b at w = sound-list s b row (λ from h. sound-row row s b from w h) at
+  sound-field (list rule row) s b at w = sound-list s b rule row (λ from h. sound-row row s b from w h) at
   sound-field chunk s b at w = sound-chunk s b at
 
   pub sound-row : (row : Row) (s : List ℕ) (b : Bytes s) (at : ℕ) → wideRow row ≡ true → at ≤ length s → Gives (RowSound s b row at) (readRow row s at)

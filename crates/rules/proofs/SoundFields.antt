@@ -17,6 +17,7 @@ use Rattle.protocol.specs.Fields.{Field, elements, valueIn}
 use Rattle.protocol.specs.Kinds.{lengthWidth, Kind, unsigned, signed, string, specification, list, Row}
 use Rattle.protocol.specs.declared.kind.Form.{Form}
 use Rattle.protocol.specs.declared.kind.Form.the-variants.{Text, Reference, Bytes as Raw}
+use Rattle.protocol.specs.declared.kind.ListRule.{ListRule}
 use Rattle.protocol.specs.declared.place.Place.{Place}
 use Rattle.rules.specs.Outcome.{Outcome, repeated}
 use Rattle.rules.specs.Grammar.{Value, encode, encodeRow, Pieces, Length, ValidBytes, Valid, ValidRow}
@@ -152,9 +153,9 @@ module _ (s : List ℕ) (b : Bytes s) where
       (λ fs next r. (encodeRow row (map (valueIn s) fs), (map (valueIn s) fs, r .0, refl), r .1))
       (g at h)
 
-  pub sound-list : (row : Row) → ((at : ℕ) → at ≤ length s → Gives (RowSound row at) (readRow row s at)) → (at : ℕ) → Gives (Sound (list rule row) at) (readList (λ t from. readRow row t from) s at)
+  pub sound-list : (rule : ListRule) (row : Row) → ((at : ℕ) → at ≤ length s → Gives (RowSound row at) (readRow row s at)) → (at : ℕ) → Gives (Sound (list rule row) at) (readList (λ t from. readRow row t from) s at)
   unfolding readList Valid
-  sound-list row g at =
+  sound-list rule row g at =
       after (Sound (list rule row) at) (λ n next. Length 4 n × Part s at (digits 4 n) next) (readCount s at) _ (sound-count at) (λ n next c.
       after (Sound (list rule row) at) (Pieced (Element row) n next) (repeated (λ t from. readRow row t from) n s next) _
       (sound-repeated (Element row) (λ t from. readRow row t from) (sound-element row g) n next (c .1 .within))
