@@ -10,6 +10,7 @@ use Rattle.wire.proofs.TwosComplement.{below-half, above-half}
 use Rattle.protocol.specs.Fields.{Field, elements, place}
 use Rattle.protocol.specs.Kinds.{Row, list}
 use Rattle.protocol.specs.Refusals.{badLength}
+use Rattle.protocol.specs.declared.kind.ListRule.{ListRule}
 use Rattle.protocol.specs.declared.place.Place.{Place}
 use Rattle.rules.specs.Outcome.{Outcome, got, refused, then, repeated}
 use Rattle.rules.specs.Reading.{readNumber, countOf, readCount, readList, readField, readRow}
@@ -51,7 +52,7 @@ module _ (s : List ℕ) (c : Cursor) (v : ℕ) (d : Cursor) (a : NumberAt 4 s c 
       (λ z. let o = then-refused 4 s c v d a sign z in (rw o (nothing z), rw o (number-refused 4 s c v d a z .1)))
 
 -- The elements behind a count, and the list that they are.
-module _ (row : Row) (s : List ℕ) (c : Cursor) (n : ℕ) (d e : Cursor) (a : CountAt s c n d) (b : e ≡ ends (readRow row) n s d) where
+module _ (rule : ListRule) (row : Row) (s : List ℕ) (c : Cursor) (n : ℕ) (d e : Cursor) (a : CountAt s c n d) (b : e ≡ ends (readRow row) n s d) where
   behind-count : List ℕ → ℕ → ℕ → ℕ → Outcome (Field Place)
   behind-count t at m next = then (repeated (readRow row) m t next) (λ _ last. got (elements m (place next (last - next))) last)
 

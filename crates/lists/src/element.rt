@@ -1,6 +1,6 @@
 // The elements of lists: where each ends, or why it is refused.
 ghost use mathlib.Core.Path.{_≡_};
-ghost use Rattle.protocol.specs.Kinds.{elementRow, u16, list, end, _·_};
+ghost use Rattle.protocol.specs.Kinds.{elementRow, u16, list, plain, end, _·_};
 ghost use Rattle.protocol.specs.declared.kind.Element.the-variants.{Message, FilteredMessage, PublishingId, PublishingError, Property, Name, CommandVersions, Broker, StreamMetadata, Statistic, BrokerReference};
 ghost use Rattle.rules.specs.Outcome.{repeated};
 ghost use Rattle.rules.specs.Reading.{readField, readRow};
@@ -155,7 +155,7 @@ fn broker_reference(s: &[u8], c: Cursor) -> Cursor
 
 // The list inside an element of Metadata's response.
 fn replicas(s: &[u8], c: Cursor) -> Cursor
-    ensures { λ r. ⌜ r ≡ landed (c .base) (from (readField (list (u16 · end))) (now (s .entry)) c) ⌝ }
+    ensures { λ r. ⌜ r ≡ landed (c .base) (from (readField (list plain (u16 · end))) (now (s .entry)) c) ⌝ }
 {
     let counted = list_count(s, c);
     let n = counted.value;

@@ -1,8 +1,7 @@
 // Lists: a count, then each element in turn, read and written.
 ghost use mathlib.Core.Path.{_≡_};
 ghost use Rattle.protocol.specs.Frames.{listField};
-ghost use Rattle.protocol.specs.Kinds.{elementRow};
-ghost use Rattle.protocol.specs.Kinds as K;
+ghost use Rattle.protocol.specs.Kinds.{elementRow, listOf};
 ghost use Rattle.rules.specs.Outcome.{repeated};
 ghost use Rattle.rules.specs.Reading.{readRow};
 ghost use Rattle.rules.specs.Writing.{writeList};
@@ -16,6 +15,7 @@ use fields::Writer;
 use fields::is_outside;
 use protocol::Element;
 use protocol::Elements;
+use protocol::ListKind;
 use protocol::Place;
 use protocol::refusal;
 use wire::Width;
@@ -26,13 +26,14 @@ pub struct ReadList {
 }
 
 // The count (6, 7), then the elements.
-pub fn list_field(s: &[u8], c: Cursor, kind: Element) -> ReadList
-    ensures { λ r. ⌜ Reads (K.list (elementRow kind)) (now (s .entry)) c (listField (r .value)) (r .next) ⌝ }
+pub fn list_field(s: &[u8], c: Cursor, kind: ListKind) -> ReadList
+    ensures { λ r. ⌜ Reads (listOf kind) (now (s .entry)) c (listField (r .value)) (r .next) ⌝ }
 {
     let counted = list_count(s, c);
     let n = counted.value;
     let behind = counted.next;
-    let last = skip_elements(s, behind, kind, n);
+    let element = kind.element;
+    let last = skip_elements(s, behind, element, n);
     if last.refused != 0 {
         return ReadList {
             value: Elements {
@@ -72,8 +73,8 @@ pub fn skip_elements(s: &[u8], start: Cursor, kind: Element, count: usize) -> Cu
 }
 
 // A list: its count, and the place of its encoded elements.
-pub fn write_list(w: Writer, src: &[u8], out: &mut [u8], kind: Element, list: Elements) -> Writer
-    ensures { λ r. ⌜ state r (now (out .exit)) ≡ stepField (K.list (elementRow kind)) (now (src .entry)) (listField list) (state w (now (out .entry))) ⌝ }
+pub fn write_list(w: Writer, src: &[u8], out: &mut [u8], kind: ListKind, list: Elements) -> Writer
+    ensures { λ r. ⌜ state r (now (out .exit)) ≡ stepField (listOf kind) (now (src .entry)) (listField list) (state w (now (out .entry))) ⌝ }
 {
     if w.refused != 0 {
         return w;
@@ -81,7 +82,8 @@ pub fn write_list(w: Writer, src: &[u8], out: &mut [u8], kind: Element, list: El
     let count = list.count;
     let place = list.place;
     if !w.putting {
-        return measure_list(w, src, kind, count, place);
+        let element = kind.element;
+        return measure_list(w, src, element, count, place);
     }
     let at = w.at;
     let from = place.at;

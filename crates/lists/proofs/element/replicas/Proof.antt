@@ -10,4 +10,4 @@ replicas-spec =
     (tie.spec
     (λ c κs. search needs)
     (λ c κs. search needs)
-    (λ c. list-landed _ _ _ _ _ _ (c .before .before .list-count .ensures) (c .broker-references .ensures)))
+    (λ c. list-landed _ _ _ _ _ _ _ (c .before .before .list-count .ensures) (c .broker-references .ensures)))

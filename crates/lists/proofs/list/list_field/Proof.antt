@@ -1,5 +1,6 @@
 -- The place of the elements lies between the two cursors.
 use Rattle.lists.proofs.ListFields.{list-refused, list-found}
+use Rattle.protocol.specs.Kinds.{plain}
 use native.Mathlib.Omega.{arith}
 use borrow.Author.Needs.{needs}
 use Rattle.lists.proofs.list.list_field.Statement.{statement}
@@ -11,8 +12,8 @@ list-field-spec =
     (tie.spec
     (λ c κs. search needs)
     (λ c κs. search needs)
-    (λ c. list-refused _ _ _ _ _ _ (c .before .before .before .before .list-count .ensures) (c .before .before .skip-elements .ensures) (c .if1 .taken))
+    (λ c. list-refused _ _ _ _ _ _ _ (c .before .before .before .before .list-count .ensures) (c .before .before .skip-elements .ensures) (c .if1 .taken))
     (λ c. search needs)
-    (λ c. omega (arith, list-found _ _ _ _ _ _ (c .before .before .before .before .before .list-count .ensures) (c .before .before .before .skip-elements .ensures) (c .before .if1 .left) .inside))
-    (λ c. list-found _ _ _ _ _ _ (c .before .before .before .before .before .before .list-count .ensures) (c .before .before .before .before .skip-elements .ensures) (c .before .before .if1 .left) .first)
-    (λ c. list-found _ _ _ _ _ _ (c .before .before .before .before .before .before .list-count .ensures) (c .before .before .before .before .skip-elements .ensures) (c .before .before .if1 .left) .read))
+    (λ c. omega (arith, list-found plain _ _ _ _ _ _ (c .before .before .before .before .before .list-count .ensures) (c .before .before .before .skip-elements .ensures) (c .before .if1 .left) .inside))
+    (λ c. list-found plain _ _ _ _ _ _ (c .before .before .before .before .before .before .list-count .ensures) (c .before .before .before .before .skip-elements .ensures) (c .before .before .if1 .left) .first)
+    (λ c. list-found _ _ _ _ _ _ _ (c .before .before .before .before .before .before .list-count .ensures) (c .before .before .before .before .skip-elements .ensures) (c .before .before .if1 .left) .read))
