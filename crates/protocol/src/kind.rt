@@ -125,17 +125,23 @@ fn string(form: Form, nullable: bool) -> FieldKind
     }
 }
 
-// A list whose elements may be alike, and which is always there.
 fn list(element: Element) -> FieldKind
     ensures { λ r. ⌜ r ≡ FieldKind.List (plainList element) ⌝ }
 {
-    FieldKind::List(ListKind {
+    FieldKind::List(plain_list(element))
+}
+
+// A list whose elements may be alike, and which is always there.
+pub fn plain_list(element: Element) -> ListKind
+    ensures { λ r. ⌜ r ≡ plainList element ⌝ }
+{
+    ListKind {
         element: element,
         rule: ListRule {
             keys: Keys::MayRepeat,
             presence: Presence::Required,
         },
-    })
+    }
 }
 
 // The fields of an element, in wire order, with NONE behind the last. No element has more than four.

@@ -21,6 +21,7 @@ pub use kind::ListRule;
 pub use kind::Presence;
 pub use kind::element_fields;
 pub use kind::field_kind;
+pub use kind::plain_list;
 pub use layout::Decided;
 pub use layout::Picked;
 pub use layout::layout_of;

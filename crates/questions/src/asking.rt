@@ -26,6 +26,7 @@ use protocol::Elements;
 use protocol::Form;
 use protocol::NullablePlace;
 use protocol::Place;
+use protocol::plain_list;
 use protocol::refusal;
 
 // The place outside the source (6), the index at or above the count (10), then the elements up to the one asked for.
@@ -239,7 +240,7 @@ fn stream_metadata(s: &[u8], c: Cursor, base: usize) -> AskedElement
     let read = u16_field(s, next);
     let leader = read.value;
     let next = read.next;
-    let read = list_field(s, next, Element::BrokerReference);
+    let read = list_field(s, next, plain_list(Element::BrokerReference));
     let replicas = list_from(base, read.value);
     let next = read.next;
     let element = ListElement::StreamMetadata {

@@ -17,14 +17,15 @@ stream-metadata-spec =
     (λ c κs. search needs)
     (λ c κs. search needs)
     (λ c κs. search needs)
+    (λ c κs. search needs)
     (λ c κs.
-    let leader = c .before .before in
+    let leader = c .before .before .before in
     let start = leader .before .before .before .before .before .before .before in
     list-fits _ _ _ _ (start .pre) _ _ (c .list-field .ensures) (omega (arith, leader .u16-field2 .ok)))
     (λ c κs. search needs)
     (λ c.
     let replicas = c .before .before .before in
-    let leader = replicas .before .before in
+    let leader = replicas .before .before .before in
     let code = leader .before .before in
     let stream = code .before .before .before in
-    (rw (code .before .before .place-from .ensures, c .before .before .list-from .ensures) at (c .answer .ensures .0) ∙ whole-element _ (link (stream .string-field .ensures) (link (code .u16-field .ensures) (link (leader .u16-field2 .ensures) (link (replicas .list-field .ensures) done)))), c .answer .ensures .1)))
+    (rw (code .before .before .place-from .ensures, c .before .before .list-from .ensures) at (c .answer .ensures .0) ∙ whole-element _ (link (stream .string-field .ensures) (link (code .u16-field .ensures) (link (leader .u16-field2 .ensures) (link (rw (replicas .before .plain-list .ensures) at (replicas .list-field .ensures)) done)))), c .answer .ensures .1)))
