@@ -20,6 +20,7 @@ pub use number::ReadU16;
 pub use number::ReadU32;
 pub use number::ReadU64;
 pub use number::i64_field;
+pub use number::largest;
 pub use number::number_of;
 pub use number::u16_field;
 pub use number::u32_field;

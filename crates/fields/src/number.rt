@@ -133,7 +133,7 @@ pub fn write_active(w: Writer, out: &mut [u8], value: u64) -> Writer
 }
 
 // The largest number of a width.
-fn largest(width: Width) -> u64
+pub fn largest(width: Width) -> u64
     ensures { λ r. ⌜ r ≡ 256 ^ widthOf width - 1 ⌝ }
 {
     match width {

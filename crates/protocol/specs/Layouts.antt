@@ -1,12 +1,12 @@
 -- A layout in the code is six numbers and a list's element four, each for a kind of field or for none.
 use mathlib.Core.List.{List, [], _∷_}
 use mathlib.Core.Option.{Option, none, some}
-use Prim.Native.Nat.{ℕ}
+use Prim.Native.Nat.{ℕ, _-_, _^_}
 use lib.ListN.{getD}
 use Rattle.protocol.specs.Kinds.{Kind, Row, end, _·_, list, plain, chunk, u8, u16, u32, u64, i64, active, T, T?, R, R?, B, B?, spec, spec₀, elementRow, unsigned, signed, string, specification, listOf}
 use Rattle.wire.specs.Integers.{widthOf}
 use Rattle.protocol.specs.declared.kind.FieldKind.{FieldKind}
-use Rattle.protocol.specs.declared.kind.FieldKind.the-variants.{Nothing, Unsigned, Signed, String, Specification, List as Listed, Chunk}
+use Rattle.protocol.specs.declared.kind.FieldKind.the-variants.{Nothing, Number, Active, Signed, String, Specification, List as Listed, Chunk}
 use Rattle.protocol.specs.declared.kind.Element.the-variants.{Message, FilteredMessage, PublishingId, PublishingError, Property, Name, CommandVersions, Broker, StreamMetadata, Statistic, BrokerReference}
 
 -- The kinds that the numbers stand for, from 0 on.
@@ -47,7 +47,8 @@ kindOf n = getD kinds n none
 -- What a kind in the code is.
 abbrev pub kindSaid : FieldKind → Option Kind
 kindSaid Nothing = none
-kindSaid (Unsigned width most) = some (unsigned (widthOf width) most)
+kindSaid (Number width) = some (unsigned (widthOf width) (256 ^ widthOf width - 1))
+kindSaid Active = some active
 kindSaid Signed = some i64
 kindSaid (String form nullable) = some (string form nullable)
 kindSaid (Specification admitsNone) = some (specification admitsNone)

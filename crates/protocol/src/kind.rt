@@ -8,8 +8,11 @@ use wire::Width;
 // A kind of field.
 pub enum FieldKind {
     Nothing,
-    // A number of a width, and the largest that is admitted.
-    Unsigned { width: Width, most: u64 },
+    // A number that fills its bytes.
+    Number(Width),
+    // Active, which is 0 or 1.
+    Active,
+    // A signed number of eight bytes.
     Signed,
     String { form: Form, nullable: bool },
     Specification { admits_none: bool },
@@ -77,12 +80,12 @@ pub fn field_kind(number: u8) -> FieldKind
     ensures { λ r. ⌜ kindSaid r ≡ kindOf number ⌝ }
 {
     match number {
-        field::U8 => unsigned(Width::One, 0xff),
-        field::U16 => unsigned(Width::Two, 0xffff),
-        field::U32 => unsigned(Width::Four, 0xffff_ffff),
-        field::U64 => unsigned(Width::Eight, 0xffff_ffff_ffff_ffff),
+        field::U8 => FieldKind::Number(Width::One),
+        field::U16 => FieldKind::Number(Width::Two),
+        field::U32 => FieldKind::Number(Width::Four),
+        field::U64 => FieldKind::Number(Width::Eight),
         field::I64 => FieldKind::Signed,
-        field::ACTIVE => unsigned(Width::One, 1),
+        field::ACTIVE => FieldKind::Active,
         field::TEXT => string(Form::Text, false),
         field::REFERENCE => string(Form::Reference, false),
         field::BYTES => string(Form::Bytes, false),
@@ -104,15 +107,6 @@ pub fn field_kind(number: u8) -> FieldKind
         field::STATISTICS => list(Element::Statistic),
         field::BROKER_REFERENCES => list(Element::BrokerReference),
         _ => FieldKind::Nothing,
-    }
-}
-
-fn unsigned(width: Width, most: u64) -> FieldKind
-    ensures { λ r. ⌜ r ≡ FieldKind.Unsigned width most ⌝ }
-{
-    FieldKind::Unsigned {
-        width: width,
-        most: most,
     }
 }
 

@@ -1,7 +1,6 @@
 -- What is proved of the flat form, and what the proofs of several functions use.
 pub mod Widening
 pub mod Behind
-pub mod FieldKinds
 pub mod Inverse
 pub mod Padding
 pub mod Fields

@@ -7,15 +7,15 @@ ghost use lib.Dec.{leb};
 ghost use lib.ListN.{length, getD, drop};
 ghost use Rattle.wire.specs.Buffer.{splice};
 ghost use Rattle.protocol.specs.Frames.{nullableField};
-ghost use Rattle.protocol.specs.Layouts.{kindOf};
+ghost use Rattle.protocol.specs.Layouts.{kindSaid};
 ghost use Rattle.slots.specs.Flat.{bits, flatHeader, flatOctets, flatOffset, flatPlace, notNull};
 ghost use Rattle.slots.specs.Inverse.{SignedHeader, SignedOffset};
 ghost use Rattle.slots.specs.Unflat.{slotsFor};
 use protocol::ChunkHeader;
+use protocol::FieldKind;
 use protocol::NullablePlace;
 use protocol::OffsetSpecification;
 use protocol::Place;
-use protocol::field;
 
 pub struct FlatOffset {
     pub kind: u64,
@@ -26,15 +26,18 @@ pub struct FlatOffset {
 const NULL_LENGTH: usize = 0xffff_ffff_ffff_ffff;
 
 // How many slots a field of a kind takes.
-pub fn slots_of(kind: u8) -> usize
-    ensures { λ r. ⌜ (r ≡ slotsFor (kindOf kind)) × (r ≤ 14) ⌝ }
+pub fn slots_of(kind: FieldKind) -> usize
+    ensures { λ r. ⌜ (r ≡ slotsFor (kindSaid kind)) × (r ≤ 14) ⌝ }
 {
     match kind {
-        field::U8..=field::ACTIVE => 1,
-        field::TEXT..=field::SPECIFICATION_OR_NONE => 2,
-        field::CHUNK => 14,
-        field::MESSAGES..=field::STATISTICS => 3,
-        _ => 0,
+        FieldKind::Nothing => 0,
+        FieldKind::Number(_) => 1,
+        FieldKind::Active => 1,
+        FieldKind::Signed => 1,
+        FieldKind::String { .. } => 2,
+        FieldKind::Specification { .. } => 2,
+        FieldKind::List(_) => 3,
+        FieldKind::Chunk => 14,
     }
 }
 
