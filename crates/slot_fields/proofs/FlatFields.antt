@@ -9,25 +9,44 @@ use lib.ListN.{getD}
 use borrow.Author.Tests.{eq-eqb, ne-eqb}
 use Rattle.wire.specs.Buffer.{Holds, holds, copied}
 use Rattle.wire.specs.Integers.{digits}
+use Rattle.wire.specs.Signed.{signed, unsigned}
+use Rattle.wire.proofs.TwosComplement.{twos-complement}
+use Rattle.fields.proofs.Encodings.{fits}
 use Rattle.protocol.specs.Fields.{place}
 use Rattle.protocol.specs.Fields as F
 use Rattle.protocol.specs.Kinds.{spec₀}
 use Rattle.protocol.specs.Kinds as K
+use Rattle.protocol.specs.Layouts.{kindSaid}
 use Rattle.protocol.specs.Refusals.{valueNotAdmitted}
 use Rattle.protocol.specs.declared.chunk.ChunkHeader.{ChunkHeader}
+use Rattle.protocol.specs.declared.kind.FieldKind.{FieldKind}
 use Rattle.protocol.specs.declared.offset.OffsetSpecification.{OffsetSpecification}
 use Rattle.protocol.specs.declared.offset.OffsetSpecification.the-variants.{Offset}
 use Rattle.protocol.specs.declared.place.Place.{Place}
 use Rattle.rules.specs.Reading.{isChunkType}
-use Rattle.rules.specs.Writing.{refuse, fitsHeader, writeOffset, writeChunk}
-use Rattle.fields.specs.Writer.{State, state, stood, step, stepField, putOffset}
+use Rattle.rules.specs.Writing.{Encoding, refuse, wrote, fitsHeader, writeUnsigned, writeSigned, writeOffset, writeChunk}
+use Rattle.fields.specs.Writer.{State, state, stood, behind, step, stepField, putOffset}
 use Rattle.fields.specs.declared.writer.Writer.{Writer}
 use Rattle.slots.specs.Unflat.{unflatHeader, unflatOffset}
-use Rattle.slot_fields.specs.Writing.{stepFlat}
+use Rattle.slot_fields.specs.Writing.{stepFlat, stepKind}
+use Rattle.slot_fields.proofs.Narrowing.{whole-fits}
 
 -- What a writer does with a field, it does with the field of the slots, if they are the same.
 pub same-step : (kind : K.Kind) (src : List ℕ) (t : State) {f g : F.Field Place} {u : State} → f ≡ g → u ≡ stepField kind src f t → u ≡ stepField kind src g t
 same-step kind src t e i = i ∙ ap (λ (x : F.Field Place). stepField kind src x t) e
+
+pub of-kind : (k l : FieldKind) (src s : List ℕ) (t u : State) → k ≡ l → u ≡ stepKind (kindSaid l) src s t → u ≡ stepKind (kindSaid k) src s t
+of-kind k l src s t u e i = rw e i
+
+-- A signed number of eight bytes is written as its bits are.
+pub signed-step : (x : ℕ) (t u : State) → x < 256 ^ 8 → u ≡ stepField K.u64 [] (F.number x) t → u ≡ stepField K.i64 [] (F.integer (signed 8 x)) t
+signed-step x t u h i =
+    let bits : unsigned 8 (signed 8 x) ≡ x = twos-complement 7 .unsigned-signed x h in
+    let whole : writeSigned 8 (signed 8 x) ≡ wrote (digits 8 x) = rw (whole-fits x h, bits) in
+    let number : writeUnsigned 8 0xffff_ffff_ffff_ffff x ≡ wrote (digits 8 x) = fits 8 0xffff_ffff_ffff_ffff x (omega arith) (omega arith) in
+    i
+    ∙ ap (λ (e : Encoding). step e (behind (digits 8 x)) t) (number ∙ sym whole)
+    ∙ ap (λ (y : ℕ). step (writeSigned 8 (signed 8 x)) (behind (digits 8 y)) t) (sym bits)
 
 -- ---- Offset specifications
 

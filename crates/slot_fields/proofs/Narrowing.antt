@@ -61,7 +61,7 @@ signed-whole : (z : ℤ) → Signed 8 z → fitsSigned 8 z ≡ true
 signed-whole (pos x) h = lt-ltb _ _ h
 signed-whole (negsuc k) h = lt-ltb _ _ h
 
-whole-fits : (x : ℕ) → x < 0x1_0000_0000_0000_0000 → fitsSigned 8 (signed 8 x) ≡ true
+pub whole-fits : (x : ℕ) → x < 0x1_0000_0000_0000_0000 → fitsSigned 8 (signed 8 x) ≡ true
 whole-fits x h = signed-whole (signed 8 x) (twos-complement 7 .fits x h)
 
 -- ---- The header's numbers: the first four, and the last five. A number of eight bytes fits its field.

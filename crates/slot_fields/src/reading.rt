@@ -1,11 +1,11 @@
 // Fields read into their slots.
 ghost use mathlib.Core.Bool.{true, false};
 ghost use mathlib.Core.Path.{_≡_};
-ghost use Prim.Native.Nat.{_+_, _≤_};
+ghost use Prim.Native.Nat.{_+_, _-_, _^_, _≤_};
 ghost use lib.ListN.{length};
-ghost use Rattle.protocol.specs.Kinds.{elementRow, unsigned, specification};
+ghost use Rattle.protocol.specs.Kinds.{i64, listOf, unsigned, specification};
 ghost use Rattle.protocol.specs.Kinds as K;
-ghost use Rattle.protocol.specs.Layouts.{kindOf, rowFrom};
+ghost use Rattle.protocol.specs.Layouts.{kindSaid, rowFrom};
 ghost use Rattle.rules.specs.Reading.{readContent, readRow};
 ghost use Rattle.wire.specs.Integers.{widthOf};
 ghost use Rattle.fields.specs.Cursor.{landed};
@@ -13,14 +13,17 @@ ghost use Rattle.slots.specs.Unflat.{slotsIn};
 ghost use Rattle.slot_fields.specs.Reading.{IntoSlots, Into, Filled, contentSlots};
 use chunks::chunk_field;
 use fields::Cursor;
+use fields::i64_field;
+use fields::largest;
 use fields::nullable_field;
 use fields::offset_field;
 use fields::string_field;
 use fields::unsigned_field;
 use lists::list_field;
-use protocol::Element;
+use protocol::FieldKind;
 use protocol::Form;
-use protocol::field;
+use protocol::ListKind;
+use protocol::field_kind;
 use protocol::refusal;
 use slots::flat_chunk;
 use slots::flat_offset;
@@ -75,7 +78,7 @@ fn read_fields(s: &[u8], fields: [u8; 6], slots: &mut [u64]) -> ReadFields
     let mut at: usize = 2;
     let mut i: usize = 0;
     while i < 6 {
-        let kind = fields[i];
+        let kind = field_kind(fields[i]);
         c = read_field(s, c, kind, slots, at);
         at += slots_of(kind);
         i += 1;
@@ -84,34 +87,27 @@ fn read_fields(s: &[u8], fields: [u8; 6], slots: &mut [u64]) -> ReadFields
 }
 
 // The field at a cursor, by its kind.
-fn read_field(s: &[u8], c: Cursor, kind: u8, slots: &mut [u64], at: usize) -> Cursor
-    ensures { λ r. ⌜ Into (kindOf kind) (now (s .entry)) c at (now (slots .entry)) r (now (slots .exit)) ⌝ }
+fn read_field(s: &[u8], c: Cursor, kind: FieldKind, slots: &mut [u64], at: usize) -> Cursor
+    ensures { λ r. ⌜ Into (kindSaid kind) (now (s .entry)) c at (now (slots .entry)) r (now (slots .exit)) ⌝ }
 {
     match kind {
-        field::U8 => read_unsigned(s, c, Width::One, 0xff, slots, at),
-        field::U16 => read_unsigned(s, c, Width::Two, 0xffff, slots, at),
-        field::U32 => read_unsigned(s, c, Width::Four, 0xffff_ffff, slots, at),
-        field::U64 => read_unsigned(s, c, Width::Eight, 0xffff_ffff_ffff_ffff, slots, at),
-        field::ACTIVE => read_unsigned(s, c, Width::One, 1, slots, at),
-        field::TEXT => read_string(s, c, Form::Text, slots, at),
-        field::REFERENCE => read_string(s, c, Form::Reference, slots, at),
-        field::NULLABLE_REFERENCE => read_nullable(s, c, Form::Reference, slots, at),
-        field::NULLABLE_BYTES => read_nullable(s, c, Form::Bytes, slots, at),
-        field::SPECIFICATION => read_specification(s, c, false, slots, at),
-        field::SPECIFICATION_OR_NONE => read_specification(s, c, true, slots, at),
-        field::CHUNK => read_chunk(s, c, slots, at),
-        field::MESSAGES => read_list(s, c, Element::Message, slots, at),
-        field::FILTERED_MESSAGES => read_list(s, c, Element::FilteredMessage, slots, at),
-        field::PUBLISHING_IDS => read_list(s, c, Element::PublishingId, slots, at),
-        field::PUBLISHING_ERRORS => read_list(s, c, Element::PublishingError, slots, at),
-        field::PROPERTIES => read_list(s, c, Element::Property, slots, at),
-        field::NAMES => read_list(s, c, Element::Name, slots, at),
-        field::COMMAND_VERSIONS => read_list(s, c, Element::CommandVersions, slots, at),
-        field::BROKERS => read_list(s, c, Element::Broker, slots, at),
-        field::STREAMS => read_list(s, c, Element::StreamMetadata, slots, at),
-        field::STATISTICS => read_list(s, c, Element::Statistic, slots, at),
-        _ => c,
+        FieldKind::Nothing => c,
+        FieldKind::Number(width) => read_number(s, c, width, slots, at),
+        FieldKind::Active => read_unsigned(s, c, Width::One, 1, slots, at),
+        FieldKind::Signed => read_signed(s, c, slots, at),
+        FieldKind::String { form, nullable } => read_string(s, c, form, nullable, slots, at),
+        FieldKind::Specification { admits_none } => {
+            read_specification(s, c, admits_none, slots, at)
+        }
+        FieldKind::List(list) => read_list(s, c, list, slots, at),
+        FieldKind::Chunk => read_chunk(s, c, slots, at),
     }
+}
+
+fn read_number(s: &[u8], c: Cursor, width: Width, slots: &mut [u64], at: usize) -> Cursor
+    ensures { λ r. ⌜ IntoSlots (unsigned (widthOf width) (256 ^ widthOf width - 1)) (now (s .entry)) c at (now (slots .entry)) r (now (slots .exit)) ⌝ }
+{
+    read_unsigned(s, c, width, largest(width), slots, at)
 }
 
 // A number (6) up to the largest that is admitted (10).
@@ -132,8 +128,35 @@ fn read_unsigned(
     next
 }
 
-// T and R
-fn read_string(s: &[u8], c: Cursor, form: Form, slots: &mut [u64], at: usize) -> Cursor
+fn read_signed(s: &[u8], c: Cursor, slots: &mut [u64], at: usize) -> Cursor
+    ensures { λ r. ⌜ IntoSlots i64 (now (s .entry)) c at (now (slots .entry)) r (now (slots .exit)) ⌝ }
+{
+    let read = i64_field(s, c);
+    let next = read.next;
+    let value = read.value;
+    let values = [wire::unsigned64(value)];
+    put_slots(slots, at, &values[..]);
+    next
+}
+
+// T, R and B, and those that may be null.
+fn read_string(
+    s: &[u8],
+    c: Cursor,
+    form: Form,
+    nullable: bool,
+    slots: &mut [u64],
+    at: usize,
+) -> Cursor
+    ensures { λ r. ⌜ IntoSlots (K.string form nullable) (now (s .entry)) c at (now (slots .entry)) r (now (slots .exit)) ⌝ }
+{
+    if nullable {
+        return read_nullable(s, c, form, slots, at);
+    }
+    read_text(s, c, form, slots, at)
+}
+
+fn read_text(s: &[u8], c: Cursor, form: Form, slots: &mut [u64], at: usize) -> Cursor
     ensures { λ r. ⌜ IntoSlots (K.string form false) (now (s .entry)) c at (now (slots .entry)) r (now (slots .exit)) ⌝ }
 {
     let read = string_field(s, c, form);
@@ -144,7 +167,6 @@ fn read_string(s: &[u8], c: Cursor, form: Form, slots: &mut [u64], at: usize) ->
     next
 }
 
-// R? and B?
 fn read_nullable(s: &[u8], c: Cursor, form: Form, slots: &mut [u64], at: usize) -> Cursor
     ensures { λ r. ⌜ IntoSlots (K.string form true) (now (s .entry)) c at (now (slots .entry)) r (now (slots .exit)) ⌝ }
 {
@@ -175,10 +197,10 @@ fn read_specification(
     next
 }
 
-fn read_list(s: &[u8], c: Cursor, element: Element, slots: &mut [u64], at: usize) -> Cursor
-    ensures { λ r. ⌜ IntoSlots (K.list (elementRow element)) (now (s .entry)) c at (now (slots .entry)) r (now (slots .exit)) ⌝ }
+fn read_list(s: &[u8], c: Cursor, kind: ListKind, slots: &mut [u64], at: usize) -> Cursor
+    ensures { λ r. ⌜ IntoSlots (listOf kind) (now (s .entry)) c at (now (slots .entry)) r (now (slots .exit)) ⌝ }
 {
-    let read = list_field(s, c, element);
+    let read = list_field(s, c, kind);
     let next = read.next;
     let list = read.value;
     let place = list.place;

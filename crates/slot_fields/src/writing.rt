@@ -5,9 +5,9 @@ ghost use mathlib.Core.Path.{_≡_};
 ghost use Prim.Native.Nat.{_-_, _^_};
 ghost use lib.ListN.{drop};
 ghost use Rattle.protocol.specs.Fields as F;
-ghost use Rattle.protocol.specs.Kinds.{elementRow, unsigned, spec, spec₀};
+ghost use Rattle.protocol.specs.Kinds.{i64, listOf, unsigned, specification, spec₀};
 ghost use Rattle.protocol.specs.Kinds as K;
-ghost use Rattle.protocol.specs.Layouts.{kindOf, rowFrom};
+ghost use Rattle.protocol.specs.Layouts.{kindSaid, rowFrom};
 ghost use Rattle.wire.specs.Integers.{widthOf};
 ghost use Rattle.fields.specs.Writer.{state, stepField, stepRow};
 ghost use Rattle.slots.specs.Unflat.{unflatOffset, unflatRow};
@@ -20,10 +20,11 @@ use fields::write_number;
 use fields::write_offset;
 use fields::write_string;
 use lists::write_list;
-use protocol::Element;
+use protocol::FieldKind;
 use protocol::Form;
+use protocol::ListKind;
 use protocol::OffsetSpecification;
-use protocol::field;
+use protocol::field_kind;
 use protocol::refusal;
 use slots::list_of;
 use slots::nullable_of;
@@ -41,7 +42,7 @@ pub fn write_fields(w: Writer, src: &[u8], out: &mut [u8], slots: &[u64], fields
     let mut at: usize = 2;
     let mut i: usize = 0;
     while i < 6 {
-        let kind = fields[i];
+        let kind = field_kind(fields[i]);
         behind = write_field(behind, src, out, slots, at, kind);
         at += slots_of(kind);
         i += 1;
@@ -50,39 +51,29 @@ pub fn write_fields(w: Writer, src: &[u8], out: &mut [u8], slots: &[u64], fields
 }
 
 // The field whose slots start at a place.
-fn write_field(w: Writer, src: &[u8], out: &mut [u8], slots: &[u64], at: usize, kind: u8) -> Writer
-    ensures { λ r. ⌜ state r (now (out .exit)) ≡ stepKind (kindOf kind) (now (src .entry)) (drop at (now (slots .entry))) (state w (now (out .entry))) ⌝ }
+fn write_field(
+    w: Writer,
+    src: &[u8],
+    out: &mut [u8],
+    slots: &[u64],
+    at: usize,
+    kind: FieldKind,
+) -> Writer
+    ensures { λ r. ⌜ state r (now (out .exit)) ≡ stepKind (kindSaid kind) (now (src .entry)) (drop at (now (slots .entry))) (state w (now (out .entry))) ⌝ }
 {
     match kind {
-        field::U8 => write_unsigned(w, out, Width::One, slots, at),
-        field::U16 => write_unsigned(w, out, Width::Two, slots, at),
-        field::U32 => write_unsigned(w, out, Width::Four, slots, at),
-        field::U64 => write_unsigned(w, out, Width::Eight, slots, at),
-        field::ACTIVE => write_active(w, out, slot(slots, at, 0)),
-        field::TEXT => write_text(w, src, out, Form::Text, slots, at),
-        field::REFERENCE => write_text(w, src, out, Form::Reference, slots, at),
-        field::NULLABLE_REFERENCE => write_text_or_null(w, src, out, Form::Reference, slots, at),
-        field::NULLABLE_BYTES => write_text_or_null(w, src, out, Form::Bytes, slots, at),
-        field::SPECIFICATION => write_specification(w, out, slots, at),
-        field::SPECIFICATION_OR_NONE => {
-            write_specification_or_none(w, out, slot(slots, at, 0), slot(slots, at, 1))
+        FieldKind::Nothing => w,
+        FieldKind::Number(width) => write_unsigned(w, out, width, slots, at),
+        FieldKind::Active => write_active(w, out, slot(slots, at, 0)),
+        FieldKind::Signed => write_signed(w, out, slots, at),
+        FieldKind::String { form, nullable } => {
+            write_text(w, src, out, form, nullable, slots, at)
         }
-        field::CHUNK => write_chunk_slots(w, src, out, slots, at),
-        field::MESSAGES => write_elements(w, src, out, Element::Message, slots, at),
-        field::FILTERED_MESSAGES => {
-            write_elements(w, src, out, Element::FilteredMessage, slots, at)
+        FieldKind::Specification { admits_none } => {
+            write_specification(w, out, admits_none, slots, at)
         }
-        field::PUBLISHING_IDS => write_elements(w, src, out, Element::PublishingId, slots, at),
-        field::PUBLISHING_ERRORS => {
-            write_elements(w, src, out, Element::PublishingError, slots, at)
-        }
-        field::PROPERTIES => write_elements(w, src, out, Element::Property, slots, at),
-        field::NAMES => write_elements(w, src, out, Element::Name, slots, at),
-        field::COMMAND_VERSIONS => write_elements(w, src, out, Element::CommandVersions, slots, at),
-        field::BROKERS => write_elements(w, src, out, Element::Broker, slots, at),
-        field::STREAMS => write_elements(w, src, out, Element::StreamMetadata, slots, at),
-        field::STATISTICS => write_elements(w, src, out, Element::Statistic, slots, at),
-        _ => w,
+        FieldKind::List(list) => write_elements(w, src, out, list, slots, at),
+        FieldKind::Chunk => write_chunk_slots(w, src, out, slots, at),
     }
 }
 
@@ -92,49 +83,63 @@ fn write_unsigned(w: Writer, out: &mut [u8], width: Width, slots: &[u64], at: us
     write_number(w, out, width, slot(slots, at, 0))
 }
 
-// T and R
-fn write_text(w: Writer, src: &[u8], out: &mut [u8], form: Form, slots: &[u64], at: usize) -> Writer
-    ensures { λ r. ⌜ state r (now (out .exit)) ≡ stepFlat (K.string form false) (now (src .entry)) (drop at (now (slots .entry))) (state w (now (out .entry))) ⌝ }
+// Its 64 bits, which every signed number of eight bytes fits.
+fn write_signed(w: Writer, out: &mut [u8], slots: &[u64], at: usize) -> Writer
+    ensures { λ r. ⌜ state r (now (out .exit)) ≡ stepFlat i64 [] (drop at (now (slots .entry))) (state w (now (out .entry))) ⌝ }
 {
-    let place = place_of(slot(slots, at, 0), slot(slots, at, 1));
-    write_string(w, src, out, form, place)
+    write_number(w, out, Width::Eight, slot(slots, at, 0))
 }
 
-// R? and B?
-fn write_text_or_null(
+// T, R and B, and those that may be null.
+fn write_text(
     w: Writer,
     src: &[u8],
     out: &mut [u8],
     form: Form,
+    nullable: bool,
     slots: &[u64],
     at: usize,
 ) -> Writer
-    ensures { λ r. ⌜ state r (now (out .exit)) ≡ stepFlat (K.string form true) (now (src .entry)) (drop at (now (slots .entry))) (state w (now (out .entry))) ⌝ }
+    ensures { λ r. ⌜ state r (now (out .exit)) ≡ stepFlat (K.string form nullable) (now (src .entry)) (drop at (now (slots .entry))) (state w (now (out .entry))) ⌝ }
 {
-    let value = nullable_of(slot(slots, at, 0), slot(slots, at, 1));
-    write_nullable(w, src, out, form, value)
+    let from = slot(slots, at, 0);
+    let len = slot(slots, at, 1);
+    if nullable {
+        return write_nullable(w, src, out, form, nullable_of(from, len));
+    }
+    write_string(w, src, out, form, place_of(from, len))
 }
 
 fn write_elements(
     w: Writer,
     src: &[u8],
     out: &mut [u8],
-    element: Element,
+    kind: ListKind,
     slots: &[u64],
     at: usize,
 ) -> Writer
-    ensures { λ r. ⌜ state r (now (out .exit)) ≡ stepFlat (K.list (elementRow element)) (now (src .entry)) (drop at (now (slots .entry))) (state w (now (out .entry))) ⌝ }
+    ensures { λ r. ⌜ state r (now (out .exit)) ≡ stepFlat (listOf kind) (now (src .entry)) (drop at (now (slots .entry))) (state w (now (out .entry))) ⌝ }
 {
     let list = list_of(slot(slots, at, 0), slot(slots, at, 1), slot(slots, at, 2));
-    write_list(w, src, out, element, list)
+    write_list(w, src, out, kind, list)
 }
 
-// No specification has a type above 5. One of type 0, which is not admitted either, stands for it.
-fn write_specification(w: Writer, out: &mut [u8], slots: &[u64], at: usize) -> Writer
-    ensures { λ r. ⌜ state r (now (out .exit)) ≡ stepFlat spec [] (drop at (now (slots .entry))) (state w (now (out .entry))) ⌝ }
+// No specification has a type above 5. Where type 0 is not admitted, one of type 0 stands for it.
+fn write_specification(
+    w: Writer,
+    out: &mut [u8],
+    admits_none: bool,
+    slots: &[u64],
+    at: usize,
+) -> Writer
+    ensures { λ r. ⌜ state r (now (out .exit)) ≡ stepFlat (specification «admits_none») [] (drop at (now (slots .entry))) (state w (now (out .entry))) ⌝ }
 {
-    let offset = offset_of(slot(slots, at, 0), slot(slots, at, 1));
-    write_offset(w, out, false, offset)
+    let kind = slot(slots, at, 0);
+    let value = slot(slots, at, 1);
+    if admits_none {
+        return write_specification_or_none(w, out, kind, value);
+    }
+    write_offset(w, out, false, offset_of(kind, value))
 }
 
 // A type above 5 gives 10.

@@ -27,20 +27,22 @@ read-fields-spec =
     (λ c. search needs)
     (λ c κs. search needs)
     (λ c κs. search needs)
+    (λ c κs. search needs)
     (λ c. omega (arith, c .slots-of .ensures .1))
     (λ c. search needs)
     (λ c. search needs)
     (λ c.
     let field = c .before .before .before in
-    let l = field .before .before .before .loop in
-    let a = field .before .before .before .before .before .before .before .args in
+    let kind = field .before .before .field-kind .ensures in
+    let l = field .before .before .before .before .loop in
+    let a = field .before .before .before .before .before .before .before .before .args in
     let long = l .inv .3 in
-    let into = field .read-field .ensures in (
+    let into = rw kind at (field .read-field .ensures) in (
       search needs,
       omega (arith, c .slots-of .ensures .1, l .inv .1),
       into-length (kindOf (getD (a .t2) (l .i) 0)) (a .s .now) (l .c) (l .at) (l .slots) _ _ into ∙ l .inv .2,
       long,
-      turns (a .s .now) (a .t2) (a .slots .now) (l .i) (l .c) (l .at) (l .slots) (l .inv .4) _ _ _ (omega arith) (c .slots-of .ensures .0) into,
+      turns (a .s .now) (a .t2) (a .slots .now) (l .i) (l .c) (l .at) (l .slots) (l .inv .4) _ _ _ (omega arith) (rw kind at (c .slots-of .ensures .0)) into,
     ))
     (λ c. c .before .loop .inv .2)
     (λ c.

@@ -1,6 +1,5 @@
 -- The list is what stands in the slots.
-use Rattle.protocol.specs.Kinds.{elementRow}
-use Rattle.protocol.specs.Kinds as K
+use Rattle.protocol.specs.Kinds.{listOf}
 use borrow.Author.Needs.{needs}
 use Rattle.slot_fields.proofs.FlatFields.{same-step}
 use Rattle.slot_fields.proofs.writing.write_elements.Statement.{statement}
@@ -19,4 +18,4 @@ write-elements-spec =
     (λ c.
     let list = c .before .before .before .before in
     let a = list .before .before .before .before .before .before .before .args in
-    same-step (K.list (elementRow (a .element))) (a .src .now) _ (rw (list .before .before .before .slot .ensures, list .before .before .slot2 .ensures, list .before .slot3 .ensures) at (list .list-of .ensures)) (c .before .before .write-list .ensures)))
+    same-step (listOf (a .kind)) (a .src .now) _ (rw (list .before .before .before .slot .ensures, list .before .before .slot2 .ensures, list .before .slot3 .ensures) at (list .list-of .ensures)) (c .before .before .write-list .ensures)))

@@ -28,19 +28,21 @@ write-fields-spec =
     (λ c. search needs)
     (λ c κs. search needs)
     (λ c κs. search needs)
+    (λ c κs. search needs)
     (λ c. omega (arith, c .slots-of .ensures .1))
     (λ c. search needs)
     (λ c. search needs)
     (λ c.
     let field = c .before .before .before in
-    let l = field .before .before .before .loop in
-    let a = field .before .before .before .before .before .before .before .args in
+    let kind = field .before .before .field-kind .ensures in
+    let l = field .before .before .before .before .loop in
+    let a = field .before .before .before .before .before .before .before .before .args in
     let long = l .inv .3 in (
       search needs,
       omega (arith, c .slots-of .ensures .1, l .inv .1),
       c .before .before .out .given ∙ l .inv .2,
       long,
-      sym (writes-next (a .t5) (a .src .now) (a .slots .now) (l .i) (l .at) _ _ _ (omega arith) (c .slots-of .ensures .0) (field .write-field .ensures)) ∙ l .inv .4,
+      sym (writes-next (a .t5) (a .src .now) (a .slots .now) (l .i) (l .at) _ _ _ (omega arith) (rw kind at (c .slots-of .ensures .0)) (rw kind at (field .write-field .ensures))) ∙ l .inv .4,
     ))
     (λ c. c .before .loop .inv .2)
     (λ c.
