@@ -17,7 +17,7 @@ use Rattle.wire.proofs.TwosComplement.{below-half}
 use Rattle.wire.proofs.Widths.{integers}
 use Rattle.protocol.specs.Fields.{Field, number, elements, place, overPlaces, further}
 use Rattle.protocol.specs.Fields as F
-use Rattle.protocol.specs.Kinds.{Kind, Row, end, _·_, unsigned, list, spec, T, R?}
+use Rattle.protocol.specs.Kinds.{Kind, Row, end, _·_, unsigned, list, plain, spec, T, R?}
 use Rattle.protocol.specs.Table.{rowOf}
 use Rattle.protocol.specs.Refusals.{fieldCut, notUtf8}
 use Rattle.protocol.specs.declared.kind.Form.the-variants.{Text, Reference}
@@ -123,7 +123,7 @@ module _ (row : Row) (s : List ℕ) (at from count last : ℕ) where
       small : (n : ℕ) → n ≤ 0x7fff_ffff → n < 0x8000_0000
       small n k = omega arith
 
-  pub list-read : at + 4 ≡ from → from ≤ length s → count ≡ bigEndian 4 s at → count ≤ 0x7fff_ffff → last ≡ endOf (repeated (readRow row) count s from) → (last ≡ 0 → ⊥) → readField (list rule row) s at ≡ got (elements count (place from (last - from))) last
+  pub list-read : at + 4 ≡ from → from ≤ length s → count ≡ bigEndian 4 s at → count ≤ 0x7fff_ffff → last ≡ endOf (repeated (readRow row) count s from) → (last ≡ 0 → ⊥) → readField (list plain row) s at ≡ got (elements count (place from (last - from))) last
   unfolding readField readList
   list-read f h e l j z = rw (count-read f h e l) (by (repeated (readRow row) count s from) j)
     where

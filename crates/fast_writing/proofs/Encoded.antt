@@ -12,7 +12,7 @@ use borrow.Author.Tests.{le-ltb, lt-leb, ne-eqb}
 use Rattle.wire.specs.Integers.{Bytes, digits}
 use Rattle.wire.proofs.Splice.{part-length}
 use Rattle.protocol.specs.Fields.{place}
-use Rattle.protocol.specs.Kinds.{Row, end, _·_, list, u8, elementRow}
+use Rattle.protocol.specs.Kinds.{Row, end, _·_, list, plain, u8, elementRow}
 use Rattle.protocol.specs.Table.{table, rowIn, rowOf}
 use Rattle.protocol.specs.declared.kind.Element.the-variants.{Message, Property, PublishingId}
 use Rattle.protocol.specs.declared.kind.Form.the-variants.{Text, Reference}
@@ -116,13 +116,13 @@ module _ (s src : List ℕ) where
     abbrev listed : List (List ℕ)
     listed = digits 1 (slot s 2) ∷ digits 4 (slot s 3) ∷ bytes ∷ []
 
-    numbered-list : (row : Row) → repeated (readRow row) (slot s 3) bytes 0 ≡ got tt (slot s 5) → writeRow (u8 · list row · end) src (unflatRow (u8 · list row · end) (drop 2 s)) ≡ wrote (joined listed)
+    numbered-list : (row : Row) → repeated (readRow row) (slot s 3) bytes 0 ≡ got tt (slot s 5) → writeRow (u8 · list plain row · end) src (unflatRow (u8 · list plain row · end) (drop 2 s)) ≡ wrote (joined listed)
     numbered-list row e =
         simp getD-drop
         (one-in-front (digits 1 (slot s 2)) _ _ (digits 4 (slot s 3) ∷ bytes ∷ []) (fits 1 0xff (slot s 2) (omega arith) id)
         (two-in-front (digits 4 (slot s 3)) bytes _ _ [] (list-written src (slot s 4) (slot s 5) part row (slot s 3) count e) refl))
 
-    list-row : (row : Row) → repeated (readRow row) (slot s 3) bytes 0 ≡ got tt (slot s 5) → Encodes (writeRow (u8 · list row · end) src (unflatRow (u8 · list row · end) (drop 2 s))) listed (9 + slot s 5)
+    list-row : (row : Row) → repeated (readRow row) (slot s 3) bytes 0 ≡ got tt (slot s 5) → Encodes (writeRow (u8 · list plain row · end) src (unflatRow (u8 · list plain row · end) (drop 2 s))) listed (9 + slot s 5)
     list-row row e =
         let l : length (joined listed) ≡ 1 + (4 + (slot s 5 + 0)) = number-front 1 (slot s 2) _ _ (number-front 4 (slot s 3) _ _ (part-front bytes [] (slot s 5) 0 (part-long src (slot s 4) (slot s 5) part) refl)) in
         record { is = numbered-list row e; sized = omega (arith, l) }
