@@ -1,4 +1,5 @@
 -- Lemmas that belong to no one function.
+pub mod Within
 pub mod Widths
 pub mod TwosComplement
 pub mod Casts

@@ -10,7 +10,7 @@ use lib.ListN.{length, getD, take, drop, length-append, length-drop}
 use borrow.Author.Tests.{le-leb, lt-leb, leb-true, leb-false}
 use lib.Dec.{leb}
 use lib.Seq.{getD-append-add, take-suc, getD-drop, getD-take, getD-at}
-use Rattle.wire.specs.Integers.{Bytes, bigEndian, digits, numberAt, Law}
+use Rattle.wire.specs.Integers.{Bytes, bigEndian, digits, numberAt, numberOrZero, Law}
 use Rattle.wire.specs.declared.integers.Number.the-variants.{Value, Cut}
 
 size : (n x : ℕ) → length (digits n x) ≡ n
@@ -98,6 +98,14 @@ module _ (n : ℕ) (s : List ℕ) (at : ℕ) where
   pub cut : length s < at + n → numberAt n s at ≡ Cut
   unfolding numberAt
   cut h = rw (lt-leb _ _ h)
+
+  pub or-zero : at + n ≤ length s → numberOrZero n s at ≡ bigEndian n s at
+  unfolding numberOrZero
+  or-zero h = rw (le-leb _ _ h)
+
+  pub zero-if-cut : length s < at + n → numberOrZero n s at ≡ 0
+  unfolding numberOrZero
+  zero-if-cut h = rw (lt-leb _ _ h)
 
   -- What the answer tells.
   pub is-there : (v : ℕ) → Value v ≡ numberAt n s at → (at + n ≤ length s) × (v ≡ bigEndian n s at)

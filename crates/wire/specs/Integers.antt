@@ -36,6 +36,10 @@ widthOf Eight = 8
 unfoldable pub numberAt : ℕ → List ℕ → ℕ → Number
 numberAt n s at = cond (leb (at + n) (length s)) (Value (bigEndian n s at)) Cut
 
+-- The same; 0 where they are not.
+unfoldable pub numberOrZero : ℕ → List ℕ → ℕ → ℕ
+numberOrZero n s at = cond (leb (at + n) (length s)) (bigEndian n s at) 0
+
 -- The law of a width: what is written is read, what is read is written, and neither leaves the width.
 pub record Law (n : ℕ) : Type 0 where
   pub size : (x : ℕ) → length (digits n x) ≡ n

@@ -1,9 +1,10 @@
 // Big-endian unsigned integers of 1, 2, 3, 4 and 8 bytes, read and written.
 ghost use mathlib.Core.Path.{_≡_};
-ghost use Prim.Native.Nat.{_+_, _≤_};
+ghost use Prim.Native.Nat.{_+_, _<_, _≤_};
 ghost use lib.ListN.{length};
-ghost use Rattle.wire.specs.Integers.{bigEndian, digits, numberAt, widthOf};
+ghost use Rattle.wire.specs.Integers.{bigEndian, digits, numberAt, numberOrZero, widthOf};
 ghost use Rattle.wire.specs.Buffer.{splice, put, holds};
+use crate::room::has_room;
 
 // How many bytes an integer takes.
 pub enum Width {
@@ -38,14 +39,20 @@ impl Width {
 pub fn number_at(s: &[u8], at: usize, width: Width) -> Number
     ensures { λ r. ⌜ r ≡ numberAt (widthOf width) (now (s .entry)) at ⌝ }
 {
-    let n = width.bytes();
-    if s.len() < at {
-        return Number::Cut;
-    }
-    if s.len() - at < n {
+    if !has_room(s.len(), at, width.bytes()) {
         return Number::Cut;
     }
     Number::Value(number_there(s, at, width))
+}
+
+// The same; 0 where the slice ends before the number does.
+pub fn number_or_zero(s: &[u8], at: usize, width: Width) -> u64
+    ensures { λ r. ⌜ r ≡ numberOrZero (widthOf width) (now (s .entry)) at ⌝ }
+{
+    if !has_room(s.len(), at, width.bytes()) {
+        return 0;
+    }
+    number_there(s, at, width)
 }
 
 // Puts the low bytes of v, as many as the width has, at a place of out, and answers the place behind them.
@@ -54,49 +61,47 @@ pub fn put_number(out: &mut [u8], at: usize, width: Width, v: u64) -> usize
     ensures { λ r. ⌜ holds (now (out .exit)) r ≡ put (now (out .entry)) at (digits (widthOf width) v) ⌝ }
 {
     let n = width.bytes();
-    if out.len() < at {
-        return at;
-    }
-    if out.len() - at < n {
+    if !has_room(out.len(), at, n) {
         return at;
     }
     put_big_endian(out, at, n, v);
     at + n
 }
 
-fn wide(b: u8) -> u32
-    ensures { λ r. ⌜ r ≡ b ⌝ }
-{
-    b as u32
-}
-
-// Eight bytes are read as two halves, which the compiler makes one load of.
+// It is written out, and not a loop, so that it is inlined and made one load.
 fn number_there(s: &[u8], at: usize, width: Width) -> u64
     requires { ⌜ at + widthOf width ≤ length (now s) ⌝ }
     ensures { λ r. ⌜ r ≡ bigEndian (widthOf width) (now (s .entry)) at ⌝ }
 {
     match width {
-        Width::One => big_endian(s, at, 1) as u64,
-        Width::Two => big_endian(s, at, 2) as u64,
-        Width::Three => big_endian(s, at, 3) as u64,
-        Width::Four => big_endian(s, at, 4) as u64,
-        Width::Eight => big_endian(s, at, 4) as u64 * 0x1_0000_0000
-            + big_endian(s, at + 4, 4) as u64,
+        Width::One => one(s, at) as u64,
+        Width::Two => two(s, at) as u64,
+        Width::Three => two(s, at) as u64 * 0x100 + one(s, at + 2) as u64,
+        Width::Four => four(s, at) as u64,
+        Width::Eight => four(s, at) as u64 * 0x1_0000_0000 + four(s, at + 4) as u64,
     }
 }
 
-// At most four bytes.
-fn big_endian(s: &[u8], at: usize, n: usize) -> u32
-    requires { ⌜ (n ≤ 4) × (at + n ≤ length (now s)) ⌝ }
-    ensures { λ r. ⌜ r ≡ bigEndian n (now (s .entry)) at ⌝ }
+// One sum: the compiler sees a load in it, which it does not in a sum of halves.
+fn four(s: &[u8], at: usize) -> u32
+    requires { ⌜ at + 4 ≤ length (now s) ⌝ }
+    ensures { λ r. ⌜ r ≡ bigEndian 4 (now (s .entry)) at ⌝ }
 {
-    let mut v: u32 = 0;
-    let mut i = 0;
-    while i < n {
-        v = v * 256 + wide(s[at + i]);
-        i += 1;
-    }
-    v
+    one(s, at) * 0x100_0000 + one(s, at + 1) * 0x1_0000 + one(s, at + 2) * 0x100 + one(s, at + 3)
+}
+
+fn two(s: &[u8], at: usize) -> u32
+    requires { ⌜ at + 2 ≤ length (now s) ⌝ }
+    ensures { λ r. ⌜ (r ≡ bigEndian 2 (now (s .entry)) at) × (r < 0x1_0000) ⌝ }
+{
+    one(s, at) * 0x100 + one(s, at + 1)
+}
+
+fn one(s: &[u8], at: usize) -> u32
+    requires { ⌜ at + 1 ≤ length (now s) ⌝ }
+    ensures { λ r. ⌜ (r ≡ bigEndian 1 (now (s .entry)) at) × (r < 0x100) ⌝ }
+{
+    s[at] as u32
 }
 
 // From the last byte to the first.

@@ -2,13 +2,16 @@
 // No function here has a `requires`: each answers for any slice, any place and any number.
 mod buffer;
 mod integers;
+mod room;
 mod signed;
 
 pub use buffer::put_bytes;
 pub use integers::Number;
 pub use integers::Width;
 pub use integers::number_at;
+pub use integers::number_or_zero;
 pub use integers::put_number;
+pub use room::has_room;
 pub use signed::signed8;
 pub use signed::signed32;
 pub use signed::signed64;

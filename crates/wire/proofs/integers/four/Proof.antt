@@ -4,10 +4,10 @@ use mathlib.Core.List.{List}
 use Prim.Native.Nat.{ℕ, _+_, _*_}
 use native.Mathlib.Omega.{arith}
 use borrow.Author.Needs.{needs}
 use Rattle.wire.specs.Integers.{bigEndian}
 use Rattle.wire.proofs.Widths.{join}
-use Rattle.fast_reading.proofs.four.Statement.{statement}
-use Rattle.fast_reading.proofs.four.Tie as tie
+use Rattle.wire.proofs.integers.four.Statement.{statement}
+use Rattle.wire.proofs.integers.four.Tie as tie
 
 sum : (s : List ℕ) (at a b c d : ℕ) → a ≡ bigEndian 1 s at → b ≡ bigEndian 1 s (at + 1) → c ≡ bigEndian 1 s (at + 2) → d ≡ bigEndian 1 s (at + 3)
     → a * 0x100_0000 + b * 0x1_0000 + c * 0x100 + d ≡ bigEndian 4 s at

@@ -1,9 +1,9 @@
 -- Two numbers one behind another are one number.
 use native.Mathlib.Omega.{arith}
 use borrow.Author.Needs.{needs}
 use Rattle.wire.proofs.Widths.{join}
-use Rattle.fast_reading.proofs.two.Statement.{statement}
-use Rattle.fast_reading.proofs.two.Tie as tie
+use Rattle.wire.proofs.integers.two.Statement.{statement}
+use Rattle.wire.proofs.integers.two.Tie as tie
 
 pub two-spec : {M : Type 1} → statement M
 two-spec =

@@ -5,9 +5,9 @@ use Prim.Native.Nat.{ℕ, _+_}
 use native.Mathlib.Omega.{arith}
 use lib.ListN.{getD}
 use borrow.Author.Needs.{needs}
 use Rattle.wire.specs.Integers.{bigEndian}
-use Rattle.fast_reading.proofs.one.Statement.{statement}
-use Rattle.fast_reading.proofs.one.Tie as tie
+use Rattle.wire.proofs.integers.one.Statement.{statement}
+use Rattle.wire.proofs.integers.one.Tie as tie
 
 there : (s : List ℕ) (at : ℕ) → getD s at 0 ≡ bigEndian 1 s at
 unfolding bigEndian
