@@ -1,24 +1,17 @@
 -- Where the checks of a field that is written end: with a refusal, or with its bytes. Assumes nothing.
 use mathlib.Core.Path.{_≡_, _∙_, ap}
 use mathlib.Core.Bool.{Bool, true, false}
-use mathlib.Core.List.{List, [], _++_}
-use mathlib.Core.Option.{some}
+use mathlib.Core.List.{[], _++_}
 use Prim.Native.Nat.{ℕ, _/_, _^_, _<_, _≤_}
 use native.Mathlib.Omega.{arith}
-use lib.Dec.{lit≤}
 use lib.IntN.{ℤ, pos, negsuc}
-use borrow.Author.Tests.{lt-ltb, le-ltb, lt-leb, le-leb}
+use borrow.Author.Tests.{lt-ltb, le-ltb, lt-leb}
 use Rattle.wire.specs.Integers.{digits}
-use Rattle.protocol.specs.Fields.{bytesAt, outside}
 use Rattle.protocol.specs.Fields as F
-use Rattle.protocol.specs.Kinds.{lengthWidth, specification}
-use Rattle.protocol.specs.Refusals.{fieldCut, badLength, notUtf8, referenceTooLong, valueNotAdmitted}
-use Rattle.protocol.specs.declared.kind.Form.{Form}
-use Rattle.protocol.specs.declared.kind.Form.the-variants.{Text, Reference, Bytes}
-use Rattle.protocol.specs.declared.place.Place.{Place}
-use Rattle.rules.specs.Reading.{tooLong, isText}
+use Rattle.protocol.specs.Kinds.{specification}
+use Rattle.protocol.specs.Refusals.{valueNotAdmitted}
 use Rattle.protocol.specs.declared.offset.OffsetSpecification.the-variants.{None, Offset, Timestamp}
-use Rattle.rules.specs.Writing.{wrote, refuse, fitsSigned, writeUnsigned, writeString, writeOffset}
+use Rattle.rules.specs.Writing.{wrote, refuse, fitsSigned, writeUnsigned, writeOffset}
 use Rattle.wire.specs.Signed as two's
 use Rattle.fields.specs.Writer.{State, behind, step, stepField}
 use mir.Syntax.{Width}
@@ -58,34 +51,3 @@ timestamp-bits z v s t f e i =
 pub same-timestamp : (admitsNone : Bool) (z y : ℤ) (s t : State) → y ≡ z → s ≡ stepField (specification false) [] (F.offset (Timestamp y)) t → s ≡ stepField (specification admitsNone) [] (F.offset (Timestamp z)) t
 unfolding writeOffset
 same-timestamp admitsNone z y s t e i = i ∙ ap (λ (x : ℤ). stepField (specification false) [] (F.offset (Timestamp x)) t) e
-
--- A length takes at most four bytes.
-pub narrow : (form : Form) → lengthWidth form ≤ 4
-narrow Text = lit≤ tt
-narrow Reference = lit≤ tt
-narrow Bytes = lit≤ tt
-
--- A byte string that has a place.
-module _ (form : Form) (nullable : Bool) (src : List ℕ) (p : Place) where
-  pub string-long : 256 ^ lengthWidth form / 2 ≤ p .len → writeString form nullable src (some p) ≡ refuse badLength
-  unfolding writeString
-  string-long h = rw (le-leb _ _ h)
-
-  module _ (h : p .len < 256 ^ lengthWidth form / 2) where
-    pub string-over-limit : tooLong form (p .len) ≡ true → writeString form nullable src (some p) ≡ refuse referenceTooLong
-    unfolding writeString
-    string-over-limit t = rw (lt-leb _ _ h, t)
-
-    module _ (t : tooLong form (p .len) ≡ false) where
-      pub string-outside : outside p src ≡ true → writeString form nullable src (some p) ≡ refuse fieldCut
-      unfolding writeString
-      string-outside o = rw (lt-leb _ _ h, t, o)
-
-      module _ (o : outside p src ≡ false) where
-        pub string-not-text : isText form (bytesAt src p) ≡ false → writeString form nullable src (some p) ≡ refuse notUtf8
-        unfolding writeString
-        string-not-text u = rw (lt-leb _ _ h, t, o, u)
-
-        pub string-bytes : isText form (bytesAt src p) ≡ true → writeString form nullable src (some p) ≡ wrote (digits (lengthWidth form) (p .len) ++ bytesAt src p)
-        unfolding writeString
-        string-bytes u = rw (lt-leb _ _ h, t, o, u)

@@ -1,5 +1,5 @@
 -- What a cursor says of the next reader: a fresh one lets it read, a refused one stays as it is. Assumes nothing.
-use mathlib.Core.Path.{_≡_, refl}
+use mathlib.Core.Path.{_≡_, refl, _∙_, sym, ap}
 use mathlib.Core.Bool.{Bool, true, false}
 use mathlib.Core.List.{List}
 use Prim.Native.Nat.{ℕ}
@@ -8,7 +8,8 @@ use lib.Dec.{eqb}
 use Rattle.rules.specs.Outcome.{Outcome, got, refused, then, mapped}
 use Rattle.protocol.specs.Fields.{Field, overPlaces, further}
 use Rattle.protocol.specs.declared.place.Place.{Place}
-use Rattle.fields.specs.Cursor.{cursor, from, landed, FieldRead}
+use Rattle.rules.proofs.Bounds.{Numbered}
+use Rattle.fields.specs.Cursor.{cursor, from, landed, foundOr, moved, FieldRead}
 use Rattle.fields.specs.declared.cursor.Cursor.{Cursor}
 
 module _ {A : Type 0} (read : List ℕ → ℕ → Outcome A) (s : List ℕ) (c : Cursor) where
@@ -45,3 +46,22 @@ refused-there blank base number at o d e f = record { read = rw e; behind = rw (
 
 pub found-there : (blank : Field Place) (base next : ℕ) (f g : Field Place) (o : Outcome (Field Place)) (d : Cursor) → o ≡ got f next → g ≡ overPlaces (further base) f → d ≡ cursor base next 0 → FieldRead blank base o g d
 found-there blank base next f g o d e h k = record { read = rw (e, h); behind = rw (e, k) }
+
+-- Another blank beside the same outcome, by whether the cursor behind it is refused.
+module _ (x y : Field Place) (base : ℕ) (o : Outcome (Field Place)) (f : Field Place) (d : Cursor) where
+  pub found-with : Numbered o → d .refused ≡ 0 → FieldRead x base o f d → FieldRead y base o f d
+  found-with n z r = record { read = by o n (r .read) (r .behind); behind = r .behind }
+    where
+      by : (p : Outcome (Field Place)) → Numbered p → f ≡ foundOr x (moved base p) → d ≡ landed base p → f ≡ foundOr y (moved base p)
+      by (got g next) k e i = e
+      by (refused m at) k e i = absurd (k (sym (ap (λ (a : Cursor). a .refused) i) ∙ z))
+
+  pub missing-with : (d .refused ≡ 0 → ⊥) → FieldRead x base o f d → FieldRead y base o y d
+  missing-with z r = record { read = by o (r .behind); behind = r .behind }
+    where
+      by : (p : Outcome (Field Place)) → d ≡ landed base p → y ≡ foundOr y (moved base p)
+      by (got g next) i = absurd (z (ap (λ (a : Cursor). a .refused) i))
+      by (refused m at) i = refl
+
+pub numbered-from : {A : Type 0} (read : List ℕ → ℕ → Outcome A) → ((s : List ℕ) (at : ℕ) → Numbered (read s at)) → (s : List ℕ) (c : Cursor) → Numbered (from read s c)
+numbered-from read n s c = by-refused c (λ h. rw (fresh read s c h) (n s (c .at))) (λ h. rw (stays read s c h) h)

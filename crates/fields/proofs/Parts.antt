@@ -1,12 +1,12 @@
 -- A place of the source, and the part of it that is lent. Assumes nothing.
 use mathlib.Core.Path.{_≡_, refl, _∙_, sym, ap}
-use mathlib.Core.Bool.{Bool, true, false}
+use mathlib.Core.Bool.{Bool, true, false, not}
 use mathlib.Core.List.{List, [], _++_}
 use Prim.Native.Nat.{ℕ, _+_, _-_, _<_, _≤_}
 use native.Mathlib.Omega.{arith}
-use lib.Dec.{ltb}
+use lib.Dec.{ltb, leb}
 use lib.ListN.{length, take, drop, length-append}
-use borrow.Author.Tests.{lt-ltb, le-ltb, ltb-true, ltb-false}
+use borrow.Author.Tests.{lt-ltb, le-ltb, ltb-false, leb-true, leb-false}
 use Rattle.wire.specs.Integers.{digits}
 use Rattle.wire.proofs.Splice.{part-length}
 use Rattle.wire.proofs.Widths.{integers}
@@ -21,22 +21,13 @@ use Rattle.fields.specs.declared.cursor.Cursor.{Cursor}
 use Rattle.fields.proofs.Landing.{fresh}
 use Rattle.fields.proofs.Loops.{ends}
 
-pub outside-start : (n at len : ℕ) → n < at → true ≡ ltb n (at + len)
-outside-start n at len h = sym (lt-ltb n (at + len) (omega (arith, h)))
-
--- The room behind a place's start, against its length.
-pub outside-test : (n at len : ℕ) → at ≤ n → ltb (n - at) len ≡ ltb n (at + len)
-outside-test n at len h = by (ltb (n - at) len) refl
+-- Where there is no room for a place's bytes, it is outside.
+pub no-room-outside : (last len : ℕ) → not (leb last len) ≡ ltb len last
+no-room-outside last len = by (leb last len) refl
   where
-    by : (t : Bool) → ltb (n - at) len ≡ t → ltb (n - at) len ≡ ltb n (at + len)
-    by true e =
-        let l : n - at < len = ltb-true _ _ e in
-        let k : n < at + len = omega (arith, h, l) in
-        e ∙ sym (lt-ltb n (at + len) k)
-    by false e =
-        let l : len ≤ n - at = ltb-false _ _ e in
-        let k : at + len ≤ n = omega (arith, h, l) in
-        e ∙ sym (le-ltb n (at + len) k)
+    by : (t : Bool) → leb last len ≡ t → not (leb last len) ≡ ltb len last
+    by true e = rw (e, le-ltb len last (leb-true _ _ e))
+    by false e = rw (e, lt-ltb len last (leb-false _ _ e))
 
 module _ (src : List ℕ) (p : Place) (r : Bool) (i : r ≡ outside p src) where
   pub ends-inside : r ≡ false → p .at + p .len ≤ length src

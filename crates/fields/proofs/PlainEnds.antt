@@ -1,31 +1,35 @@
 -- Where reading ends, as a plain place. A place other than 0 was read to. At 0 something was refused, or it began at 0 and
 -- took no bytes, and then any number of the like end at 0 too: so 0 ends every loop. Assumes nothing.
 use mathlib.Core.Path.{_≡_, refl, _∙_, sym, ap}
-use mathlib.Core.Bool.{Bool, true, false, cond}
+use mathlib.Core.Bool.{Bool, true, false, cond, not}
 use mathlib.Core.List.{List}
-use Prim.Native.Nat.{ℕ, zero, suc, _+_, _-_, _/_, _^_, _<_, _≤_}
+use mathlib.Core.Option.{some}
+use Prim.Native.Nat.{ℕ, zero, suc, _+_, _-_, _^_, _<_, _≤_}
 use native.Mathlib.Omega.{arith}
-use lib.Dec.{ltb}
+use lib.Dec.{eqb, ltb}
 use lib.IntN.{negsuc}
-use lib.ListN.{length, take, drop}
-use borrow.Author.Tests.{ltb-true, ltb-false}
-use Rattle.wire.specs.Integers.{numberAt}
+use lib.ListN.{length}
+use borrow.Author.Tests.{ltb-true, ltb-false, eqb-true, eqb-false, not-true, not-false}
+use Rattle.wire.specs.Integers.{numberOrZero}
 use Rattle.wire.specs.Signed.{signed}
-use Rattle.wire.specs.declared.integers.Number.the-variants.{Value}
 use Rattle.wire.proofs.TwosComplement.{below-half, above-half}
-use Rattle.wire.proofs.Widths.{is-there}
+use Rattle.wire.proofs.Widths.{or-zero}
 use Rattle.protocol.specs.Kinds.{lengthWidth}
+use Rattle.protocol.specs.Fields.{place}
 use Rattle.protocol.specs.declared.kind.Form.{Form}
+use Rattle.protocol.specs.declared.kind.Form.the-variants.{Bytes as Raw}
 use Rattle.rules.specs.Outcome.{Outcome, got, refused, then, repeated}
-use Rattle.rules.specs.Reading.{readString, readBody, tooLong, isText}
+use Rattle.rules.specs.Reading.{readString, readBody}
+use Rattle.rules.specs.Writing.{writeString}
 use Rattle.rules.proofs.Bounds.{Numbered, Bounded, numbered-repeated}
 use Rattle.rules.proofs.Numbers.{number-there, number-cut}
 use Rattle.fields.specs.Cursor.{cursor, landed}
 use Rattle.fields.specs.Ends.{endOf}
+use Rattle.fields.specs.Writer.{refusalOf}
 use Rattle.fields.specs.declared.cursor.Cursor.{Cursor}
 use Rattle.fields.proofs.Landing.{fresh}
 use Rattle.fields.proofs.Loops.{ends}
-use Rattle.fields.proofs.StringFields.{body-cut, body-not-text, body-read}
+use Rattle.fields.proofs.StringFields.{body-cut, body-read, body-refused, body-found, negative-refused}
 
 -- A loop over things of one sort: what is left to read from the place reached ends where the whole does.
 module _ {A : Type 0} (read : List ℕ → ℕ → Outcome A) (s : List ℕ) where
@@ -98,55 +102,45 @@ module _ {A : Type 0} (read : List ℕ → ℕ → Outcome A) (s : List ℕ) whe
         by (got a next) i = absurd (h (ap (λ (x : Cursor). x .refused) i))
         by (refused m p) i = refl
 
--- A byte string that may not be null. The code compares its length with the room behind it and with the largest length
--- at once, by the least of the two.
+-- A byte string that may not be null.
 pub string-no-length : (form : Form) (s : List ℕ) (at : ℕ) → length s < at + lengthWidth form → 0 ≡ endOf (readString form false s at)
 unfolding readString
 string-no-length form s at h = rw (number-cut (lengthWidth form) s at h)
 
 pub negative-end : (form : Form) (s : List ℕ) (at k next : ℕ) → endOf (readBody form false s at (negsuc k) next) ≡ 0
-unfolding readBody
-negative-end form s at zero next = refl
-negative-end form s at (suc k) next = refl
+negative-end form s at k next = rw (negative-refused form s at k next)
 
-module _ (form : Form) (s : List ℕ) (at most : ℕ) (half : 256 ^ lengthWidth form / 2 ≡ suc most) where
-  module _ (v : ℕ) (there : Value v ≡ numberAt (lengthWidth form) s at) (short : tooLong form v ≡ false) where
-    behind : readString form false s at ≡ readBody form false s at (signed (lengthWidth form) v) (at + lengthWidth form)
-    unfolding readString
-    behind =
-        let t = is-there (lengthWidth form) s at v there in
-        rw (number-there (lengthWidth form) s at (t .0), ← t .1)
+module _ (form : Form) (s : List ℕ) (at : ℕ) (there : at + lengthWidth form ≤ length s) (v : ℕ) (e : v ≡ numberOrZero (lengthWidth form) s at) where
+  behind : readString form false s at ≡ readBody form false s at (signed (lengthWidth form) v) (at + lengthWidth form)
+  unfolding readString
+  behind = rw (number-there (lengthWidth form) s at there, e, or-zero (lengthWidth form) s at there)
 
-    too-large : most < v → 0 ≡ endOf (readString form false s at)
-    too-large h = rw (behind, above-half (lengthWidth form) v (omega (arith, half))) (sym (negative-end form s at _ _))
+  module _ (r : Bool) (f : r ≡ eqb (refusalOf (writeString form false s (some (place (at + lengthWidth form) v)))) 0) where
+    pub string-none : not r ≡ true → 0 ≡ endOf (readString form false s at)
+    string-none h = rw (behind, body-refused form s (at + lengthWidth form) v _ refl at (eqb-false _ _ (sym f ∙ not-true r h)))
 
-    too-far : v ≤ most → length s < at + lengthWidth form + v → 0 ≡ endOf (readString form false s at)
-    too-far h l =
-        rw (behind, below-half (lengthWidth form) v (omega (arith, half)), body-cut form false s at (at + lengthWidth form) v short l)
+    pub string-end : not r ≡ false → at + lengthWidth form + v ≡ endOf (readString form false s at)
+    string-end h = rw (behind, body-found form s (at + lengthWidth form) v _ refl false at (eqb-true _ _ (sym f ∙ not-false r h)))
 
-    pub string-over : (r : ℕ) → r ≡ cond (ltb (length s - (at + lengthWidth form)) most) (length s - (at + lengthWidth form)) most → r < v → 0 ≡ endOf (readString form false s at)
-    string-over r e l = by (ltb (length s - (at + lengthWidth form)) most) e (ltb most v) refl
-      where
-        by : (t : Bool) → r ≡ cond t (length s - (at + lengthWidth form)) most → (u : Bool) → ltb most v ≡ u → 0 ≡ endOf (readString form false s at)
-        by t i true j = too-large (ltb-true _ _ j)
-        by true i false j = too-far (ltb-false _ _ j) (omega arith)
-        by false i false j = let k : v ≤ most = ltb-false _ _ j in absurd (omega arith)
+-- Bytes: the code compares the length with the room behind it and with the largest length at once, by the least of the two.
+module _ (s : List ℕ) (at : ℕ) (there : at + 4 ≤ length s) (v : ℕ) (e : v ≡ numberOrZero 4 s at) (r : ℕ) (f : r ≡ cond (ltb (length s - (at + 4)) 0x7fff_ffff) (length s - (at + 4)) 0x7fff_ffff) where
+  pub bytes-over : r < v → 0 ≡ endOf (readString Raw false s at)
+  bytes-over l = rw (behind Raw s at there v e) (by (ltb 0x7fff_ffff v) refl (ltb (length s - (at + 4)) 0x7fff_ffff) f)
+    where
+      by : (t : Bool) → ltb 0x7fff_ffff v ≡ t → (u : Bool) → r ≡ cond u (length s - (at + 4)) 0x7fff_ffff → 0 ≡ endOf (readBody Raw false s at (signed 4 v) (at + 4))
+      by true i u j = let k : 0x7fff_ffff < v = ltb-true _ _ i in rw (above-half 4 v (omega arith)) (sym (negative-end Raw s at (256 ^ 4 - 1 - v) (at + 4)))
+      by false i true j = let k : v ≤ 0x7fff_ffff = ltb-false _ _ i in rw (below-half 4 v (omega arith), body-cut Raw false s at (at + 4) v refl (omega arith))
+      by false i false j = let k : v ≤ 0x7fff_ffff = ltb-false _ _ i in absurd (omega arith)
 
-    pub string-fits : (r : ℕ) → r ≡ cond (ltb (length s - (at + lengthWidth form)) most) (length s - (at + lengthWidth form)) most → v ≤ r → (v ≤ most) × (at + lengthWidth form + v ≤ length s)
-    string-fits r e l = by (ltb (length s - (at + lengthWidth form)) most) refl e
-      where
-        room : at + lengthWidth form ≤ length s
-        room = is-there (lengthWidth form) s at v there .0
+  pub bytes-fit : v ≤ r → (v ≤ 0x7fff_ffff) × (at + 4 + v ≤ length s)
+  bytes-fit l = by (ltb (length s - (at + 4)) 0x7fff_ffff) refl f
+    where
+      by : (t : Bool) → ltb (length s - (at + 4)) 0x7fff_ffff ≡ t → r ≡ cond t (length s - (at + 4)) 0x7fff_ffff → (v ≤ 0x7fff_ffff) × (at + 4 + v ≤ length s)
+      by true j i = let k : length s - (at + 4) < 0x7fff_ffff = ltb-true _ _ j in (omega arith, omega arith)
+      by false j i = let k : 0x7fff_ffff ≤ length s - (at + 4) = ltb-false _ _ j in (omega arith, omega arith)
 
-        by : (t : Bool) → ltb (length s - (at + lengthWidth form)) most ≡ t → r ≡ cond t (length s - (at + lengthWidth form)) most → (v ≤ most) × (at + lengthWidth form + v ≤ length s)
-        by true j i = let k : length s - (at + lengthWidth form) < most = ltb-true _ _ j in (omega arith, omega (arith, room))
-        by false j i = let k : most ≤ length s - (at + lengthWidth form) = ltb-false _ _ j in (omega arith, omega (arith, room))
-
-    module _ (h : (v ≤ most) × (at + lengthWidth form + v ≤ length s)) where
-      pub string-not-text : isText form (take v (drop (at + lengthWidth form) s)) ≡ false → 0 ≡ endOf (readString form false s at)
-      string-not-text t =
-          rw (behind, below-half (lengthWidth form) v (omega (arith, half, h .0)), body-not-text form false s at (at + lengthWidth form) v short (h .1) t)
-
-      pub string-end : isText form (take v (drop (at + lengthWidth form) s)) ≡ true → at + lengthWidth form + v ≡ endOf (readString form false s at)
-      string-end t =
-          rw (behind, below-half (lengthWidth form) v (omega (arith, half, h .0)), body-read form false s at (at + lengthWidth form) v short (h .1) t)
+  pub bytes-end : v ≤ r → at + 4 + v ≡ endOf (readString Raw false s at)
+  bytes-end l =
+      let h = bytes-fit l in
+      let k : v < 0x8000_0000 = omega (arith, h .0) in
+      rw (behind Raw s at there v e, below-half 4 v k, body-read Raw false s at (at + 4) v refl (h .1) refl)

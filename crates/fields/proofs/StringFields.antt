@@ -1,21 +1,21 @@
--- A byte string's reader goes through the definition's checks one by one: each answer of the code is the outcome at which
--- the definition stops. Assumes nothing.
+-- A byte string is read as it is written: the same checks in the same order. So the code asks one function why it is
+-- refused, and what is read or written follows from the answer. Assumes nothing.
 use mathlib.Core.Path.{_≡_, refl, _∙_, sym, ap}
-use mathlib.Core.Bool.{Bool, true, false, not}
-use mathlib.Core.List.{List}
-use mathlib.Core.Option.{none, some, Option·some-ne-none, Option·none-ne-some}
-use Prim.Native.Nat.{ℕ, zero, suc, _+_, _-_, _*_, _/_, _^_, _<_, _≤_}
+use mathlib.Core.Bool.{Bool, true, false, cond, not, _&&_, true≢false}
+use mathlib.Core.List.{List, _++_}
+use mathlib.Core.Option.{none, some}
+use Prim.Native.Nat.{ℕ, zero, suc, _+_, _-_, _/_, _^_, _<_, _≤_}
 use native.Mathlib.Omega.{arith}
-use lib.Dec.{ltb, lit<, lit≤}
-use lib.IntN.{ℤ, pos, negsuc}
+use lib.Dec.{eqb, ltb, leb, lit<, lit≤}
+use lib.IntN.{pos, negsuc}
 use lib.ListN.{length, take, drop}
-use borrow.Author.Tests.{lt-ltb, le-ltb}
-use Rattle.wire.specs.Integers.{Bytes}
+use borrow.Author.Tests.{lt-ltb, le-ltb, lt-leb, le-leb, ltb-true, ltb-false, leb-true, leb-false, eq-eqb, eqb-true, eqb-false, not-true, not-false}
+use Rattle.wire.specs.Integers.{Bytes, bigEndian, digits, numberOrZero}
 use Rattle.wire.specs.Signed.{signed}
-use Rattle.wire.proofs.TwosComplement.{below-half, minus-one, below-minus-one}
-use Rattle.protocol.specs.Fields.{Field, place, further}
+use Rattle.wire.proofs.TwosComplement.{below-half, above-half, minus-one, below-minus-one}
+use Rattle.wire.proofs.Widths.{integers, or-zero}
+use Rattle.protocol.specs.Fields.{Field, place}
 use Rattle.protocol.specs.Fields as F
-use Rattle.protocol.specs.Frames.{nullableField, placeField}
 use Rattle.protocol.specs.Kinds.{lengthWidth}
 use Rattle.protocol.specs.Kinds as K
 use Rattle.protocol.specs.Refusals.{fieldCut, badLength, notUtf8, referenceTooLong}
@@ -23,42 +23,18 @@ use Rattle.protocol.specs.declared.kind.Form.{Form}
 use Rattle.protocol.specs.declared.kind.Form.the-variants.{Text, Reference, Bytes as Raw}
 use Rattle.protocol.specs.declared.place.Place.{Place}
 use Rattle.rules.specs.Outcome.{Outcome, got, refused, then, refuseIf}
-use Rattle.rules.specs.Reading.{readNumber, readString, readBody, readField, tooLong, isText}
-use Rattle.fields.specs.Cursor.{cursor, from, landed, foundOr, moved, StringRead, Reads}
+use Rattle.rules.specs.Reading.{readString, readBody, readField, tooLong, isText}
+use Rattle.rules.specs.Writing.{Encoding, wrote, refuse, checked, writeString}
+use Rattle.rules.proofs.Bounds.{numbered-field}
+use Rattle.rules.proofs.Numbers.{number-there, number-cases}
+use Rattle.fields.specs.Cursor.{cursor, from, isNull, Reads}
+use Rattle.fields.specs.Writer.{refusalOf}
 use Rattle.fields.specs.declared.cursor.Cursor.{Cursor}
-use Rattle.fields.proofs.Landing.{fresh, stays, by-refused, refused-there, found-there}
-use Rattle.fields.proofs.NumberFields.{NumberAt, NumberThere, number-found, number-refused, then-refused, then-found, below}
+use Rattle.fields.proofs.Landing.{fresh, stays, by-refused, refused-there, found-there, found-with, missing-with, numbered-from}
+use Rattle.fields.proofs.Parts.{lent}
+use Rattle.fields.proofs.NumberFields.{NumberAt, number-refused, then-refused, then-found}
 
--- The part that is lent to the text check is the body.
-pub body-text : (form : Form) (s : List ℕ) (at len : ℕ) (r t : Bool) → r ≡ isText form (take (at + len - at) (drop at s)) → r ≡ t → isText form (take len (drop at s)) ≡ t
-body-text form s at len r t e f = let k : at + len - at ≡ len = omega arith in sym (rw k at e) ∙ f
-
--- Behind the length.
-module _ (form : Form) (nullable : Bool) (s : List ℕ) (start at len : ℕ) where
-  pub body-too-long : tooLong form len ≡ true → readBody form nullable s start (pos len) at ≡ refused referenceTooLong start
-  unfolding readBody
-  body-too-long h = rw h
-
-  pub body-cut : tooLong form len ≡ false → length s < at + len → readBody form nullable s start (pos len) at ≡ refused fieldCut start
-  unfolding readBody
-  body-cut h l = rw (h, lt-ltb _ _ l)
-
-  pub body-not-text : tooLong form len ≡ false → at + len ≤ length s → isText form (take len (drop at s)) ≡ false → readBody form nullable s start (pos len) at ≡ refused notUtf8 start
-  unfolding readBody
-  body-not-text h l t = rw (h, le-ltb _ _ l, t)
-
-  pub body-read : tooLong form len ≡ false → at + len ≤ length s → isText form (take len (drop at s)) ≡ true → readBody form nullable s start (pos len) at ≡ got (F.string (some (place at len))) (at + len)
-  unfolding readBody
-  body-read h l t = rw (h, le-ltb _ _ l, t)
-
-  pub body-found : (base : ℕ) (d : Cursor) → tooLong form len ≡ false → at + len ≤ length s → isText form (take len (drop at s)) ≡ true → d ≡ cursor base (at + len) 0 → StringRead base (readBody form nullable s start (pos len) at) (F.string (some (place (base + at) len))) d
-  body-found base d h l t e = found-there (F.string none) base (at + len) _ _ _ d (body-read h l t) refl e
-
--- The lengths of each form.
-pub even : (form : Form) → 256 ^ lengthWidth form ≡ 256 ^ lengthWidth form / 2 * 2
-even Text = refl
-even Reference = refl
-even Raw = refl
+-- ---- The lengths of each form
 
 pub most-small : (form : Form) → 256 ^ lengthWidth form / 2 - 1 ≤ 0x7fff_ffff
 most-small Text = lit≤ tt
@@ -70,105 +46,221 @@ some-length Text = lit< tt
 some-length Reference = lit< tt
 some-length Raw = lit< tt
 
-length-null : (form : Form) (v : ℕ) → v < 256 ^ lengthWidth form → 256 ^ lengthWidth form ≤ suc v → signed (lengthWidth form) v ≡ negsuc 0
-length-null Text v = minus-one 1 v
-length-null Reference v = minus-one 1 v
-length-null Raw v = minus-one 3 v
+pub narrow : (form : Form) → lengthWidth form ≤ 4
+narrow Text = lit≤ tt
+narrow Reference = lit≤ tt
+narrow Raw = lit≤ tt
+
+-- ---- Behind a length that is not negative
+
+module _ (form : Form) (nullable : Bool) (s : List ℕ) (start at len : ℕ) where
+  pub body-cut : tooLong form len ≡ false → length s < at + len → readBody form nullable s start (pos len) at ≡ refused fieldCut start
+  unfolding readBody
+  body-cut h l = rw (h, lt-ltb _ _ l)
+
+  pub body-read : tooLong form len ≡ false → at + len ≤ length s → isText form (take len (drop at s)) ≡ true → readBody form nullable s start (pos len) at ≡ got (F.string (some (place at len))) (at + len)
+  unfolding readBody
+  body-read h l t = rw (h, le-ltb _ _ l, t)
+
+pub negative-refused : (form : Form) (s : List ℕ) (at k next : ℕ) → readBody form false s at (negsuc k) next ≡ refused badLength at
+unfolding readBody
+negative-refused form s at zero next = refl
+negative-refused form s at (suc k) next = refl
+
+-- ---- Why a byte string is refused, check by check, and what is known of one that is not
+
+pub record Admitted (form : Form) (s : List ℕ) (at len : ℕ) : Type 0 where
+  pub short : len < 256 ^ lengthWidth form / 2
+  pub limit : tooLong form len ≡ false
+  pub inside : at + len ≤ length s
+  pub text : isText form (take len (drop at s)) ≡ true
+
+module _ (form : Form) (s : List ℕ) (at len : ℕ) where
+  abbrev pub encoding : Encoding
+  encoding = writeString form false s (some (place at len))
+
+  abbrev bytes : List ℕ
+  bytes = digits (lengthWidth form) len ++ take len (drop at s)
+
+  pub bad-length : 256 ^ lengthWidth form / 2 ≤ len → badLength ≡ refusalOf encoding
+  unfolding writeString
+  bad-length h = rw (le-leb _ _ h)
+
+  module _ (h : len < 256 ^ lengthWidth form / 2) where
+    pub over-limit : tooLong form len ≡ true → referenceTooLong ≡ refusalOf encoding
+    unfolding writeString
+    over-limit t = rw (lt-leb _ _ h, t)
+
+    module _ (t : tooLong form len ≡ false) where
+      pub outside-source : length s < at + len → fieldCut ≡ refusalOf encoding
+      unfolding writeString
+      outside-source o = rw (lt-leb _ _ h, t, lt-ltb _ _ o)
+
+      -- The part that is lent to the text check is the body.
+      module _ (o : at + len ≤ length s) (r : Bool) (e : r ≡ isText form (take (at + len - at) (drop at s))) where
+        is-text : isText form (take len (drop at s)) ≡ r
+        is-text = rw (lent s at len) at (sym e)
+
+        pub not-text : not r ≡ true → notUtf8 ≡ refusalOf encoding
+        unfolding writeString
+        not-text u = rw (lt-leb _ _ h, t, le-ltb _ _ o, is-text, not-true r u)
+
+        pub not-refused : not r ≡ false → 0 ≡ refusalOf encoding
+        unfolding writeString
+        not-refused u = rw (lt-leb _ _ h, t, le-ltb _ _ o, is-text, not-false r u)
+
+  pub admitted : refusalOf encoding ≡ 0 → Admitted form s at len
+  unfolding writeString
+  admitted h = by (leb (256 ^ lengthWidth form / 2) len) (tooLong form len) (ltb (length s) (at + len)) (isText form (take len (drop at s))) refl refl refl refl h
+    where
+      by : (a b c d : Bool) → leb (256 ^ lengthWidth form / 2) len ≡ a → tooLong form len ≡ b → ltb (length s) (at + len) ≡ c → isText form (take len (drop at s)) ≡ d → refusalOf (checked a badLength (checked b referenceTooLong (checked c fieldCut (checked (not d) notUtf8 (wrote bytes))))) ≡ 0 → Admitted form s at len
+      by true b c d i j k l z = absurd (omega (arith, z))
+      by false true c d i j k l z = absurd (omega (arith, z))
+      by false false true d i j k l z = absurd (omega (arith, z))
+      by false false false false i j k l z = absurd (omega (arith, z))
+      by false false false true i j k l z = record { short = leb-false _ _ i; limit = j; inside = ltb-false _ _ k; text = l }
+
+  pub admitted-bytes : (nullable : Bool) → Admitted form s at len → writeString form nullable s (some (place at len)) ≡ wrote bytes
+  unfolding writeString
+  admitted-bytes nullable a = rw (lt-leb _ _ (a .short), a .limit, le-ltb _ _ (a .inside), a .text)
+
+  -- Read as written.
+  abbrev read-as : ℕ → Encoding → Outcome (Field Place)
+  read-as start (wrote b) = got (F.string (some (place at len))) (at + len)
+  read-as start (refuse n) = refused n start
+
+  body-as : (start : ℕ) → readBody form false s start (signed (lengthWidth form) len) at ≡ read-as start encoding
+  unfolding readBody writeString
+  body-as start = by (leb (256 ^ lengthWidth form / 2) len) refl
+    where
+      checks : (b c d : Bool) → refuseIf b referenceTooLong start (refuseIf c fieldCut start (refuseIf (not d) notUtf8 start (got (F.string (some (place at len))) (at + len)))) ≡ read-as start (checked b referenceTooLong (checked c fieldCut (checked (not d) notUtf8 (wrote bytes))))
+      checks true c d = refl
+      checks false true d = refl
+      checks false false true = refl
+      checks false false false = refl
+
+      by : (t : Bool) → leb (256 ^ lengthWidth form / 2) len ≡ t → readBody form false s start (signed (lengthWidth form) len) at ≡ read-as start encoding
+      by true e = rw (above-half (lengthWidth form) len (leb-true _ _ e), negative-refused form s start (256 ^ lengthWidth form - 1 - len) at, e)
+      by false e = rw (below-half (lengthWidth form) len (leb-false _ _ e), e) (checks (tooLong form len) (ltb (length s) (at + len)) (isText form (take len (drop at s))))
+
+  module _ (r : ℕ) (e : r ≡ refusalOf encoding) where
+    pub refused-by : (r ≡ 0 → ⊥) → encoding ≡ refuse r
+    refused-by h = by encoding e
+      where
+        by : (x : Encoding) → r ≡ refusalOf x → x ≡ refuse r
+        by (wrote b) i = absurd (h i)
+        by (refuse n) i = ap refuse (sym i)
+
+    pub body-refused : (start : ℕ) → (r ≡ 0 → ⊥) → readBody form false s start (signed (lengthWidth form) len) at ≡ refused r start
+    body-refused start h = body-as start ∙ ap (read-as start) (refused-by h)
+
+    pub body-found : (nullable : Bool) (start : ℕ) → r ≡ 0 → readBody form nullable s start (signed (lengthWidth form) len) at ≡ got (F.string (some (place at len))) (at + len)
+    body-found nullable start h =
+        let a = admitted (sym e ∙ h) in
+        rw (below-half (lengthWidth form) len (a .short)) (body-read form nullable s start at len (a .limit) (a .inside) (a .text))
+
+-- ---- A field that is not null
+
+module _ (form : Form) (s : List ℕ) (c : Cursor) (v : ℕ) (d : Cursor) (a : NumberAt (lengthWidth form) s c v d) where
+  behind-length : List ℕ → ℕ → ℕ → ℕ → Outcome (Field Place)
+  behind-length t at x next = readBody form false t at (signed (lengthWidth form) x) next
+
+  abbrev blank : Field Place
+  blank = F.string (some (place 0 0))
+
+  pub string-cut : (d .refused ≡ 0 → ⊥) → Reads (K.string form false) s c blank d
+  unfolding readField readString behind-length
+  string-cut h =
+      refused-there blank (c .base) (d .refused) (d .at) _ d
+      (then-refused (lengthWidth form) s c v d a behind-length h)
+      (number-refused (lengthWidth form) s c v d a h .1)
+
+  module _ (there : d .refused ≡ 0) (r : ℕ) (e : r ≡ refusalOf (writeString form false s (some (place (d .at) v)))) where
+    string-behind : from (readString form false) s c ≡ readBody form false s (c .at) (signed (lengthWidth form) v) (d .at)
+    unfolding readString behind-length
+    string-behind = then-found (lengthWidth form) s c v d a behind-length there
+
+    pub string-refused : (f : Cursor) → (r ≡ 0 → ⊥) → f ≡ cursor (c .base) (c .at) r → Reads (K.string form false) s c blank f
+    unfolding readField
+    string-refused f h i = refused-there blank (c .base) r (c .at) _ f (string-behind ∙ body-refused form s (d .at) v r e (c .at) h) i
+
+    pub string-found : (f : Cursor) → r ≡ 0 → f ≡ cursor (c .base) (d .at + v) 0 → Reads (K.string form false) s c (F.string (some (place (c .base + d .at) v))) f
+    unfolding readField
+    string-found f h i = found-there blank (c .base) (d .at + v) _ _ _ f (string-behind ∙ body-found form s (d .at) v r e false (c .at) h) refl i
+
+-- ---- Null
+
+length-null : (form : Form) (v : ℕ) → v ≡ 256 ^ lengthWidth form - 1 → signed (lengthWidth form) v ≡ negsuc 0
+length-null Text v e = minus-one 1 v (omega (arith, e)) (omega (arith, e))
+length-null Reference v e = minus-one 1 v (omega (arith, e)) (omega (arith, e))
+length-null Raw v e = minus-one 3 v (omega (arith, e)) (omega (arith, e))
 
 length-below : (form : Form) (v : ℕ) → 256 ^ lengthWidth form / 2 ≤ v → suc v < 256 ^ lengthWidth form → (k : ℕ) × (signed (lengthWidth form) v ≡ negsuc (suc k))
 length-below Text v = below-minus-one 1 v
 length-below Reference v = below-minus-one 1 v
 length-below Raw v = below-minus-one 3 v
 
-module _ (form : Form) (nullable : Bool) (s : List ℕ) (c : Cursor) (v : ℕ) (d : Cursor) (a : NumberAt (lengthWidth form) s c v d) where
-  behind-length : List ℕ → ℕ → ℕ → ℕ → Outcome (Field Place)
-  behind-length t at x next = readBody form nullable t at (signed (lengthWidth form) x) next
+module _ (form : Form) (s : List ℕ) (c : Cursor) where
+  abbrev largest : ℕ
+  largest = 256 ^ lengthWidth form - 1
 
-  pub string-cut : (d .refused ≡ 0 → ⊥) → StringRead (c .base) (from (readString form nullable) s c) (F.string none) d
-  unfolding readString behind-length
-  string-cut h =
-      refused-there (F.string none) (c .base) (d .refused) (d .at) _ d
-      (then-refused (lengthWidth form) s c v d a behind-length h)
-      (number-refused (lengthWidth form) s c v d a h .1)
-
-  module _ (fresh : d .refused ≡ 0) where
-    found : NumberThere (lengthWidth form) s c v d
-    found = number-found (lengthWidth form) s c v d a fresh
-
-    string-behind : from (readString form nullable) s c ≡ readBody form nullable s (c .at) (signed (lengthWidth form) v) (d .at)
-    unfolding readString behind-length
-    string-behind = then-found (lengthWidth form) s c v d a behind-length fresh
-
-    pub string-body : (f : Field Place) (e : Cursor) → v ≤ 256 ^ lengthWidth form / 2 - 1 → StringRead (c .base) (readBody form false s (c .at) (pos v) (d .at)) f e → StringRead (c .base) (from (readString form nullable) s c) f e
-    unfolding readBody
-    string-body f e h r =
-        let b = below-half (lengthWidth form) v (omega (arith, some-length form)) in
-        rw (string-behind, b) r
-
-    pub string-negative : (e : Cursor) → 256 ^ lengthWidth form / 2 - 1 < v → v ≤ (256 ^ lengthWidth form / 2 - 1) * 2 → e ≡ cursor (c .base) (c .at) badLength → StringRead (c .base) (from (readString form nullable) s c) (F.string none) e
-    unfolding readBody
-    string-negative e h l f =
-        let k = length-below form v (omega arith) (omega (arith, even form, some-length form)) in
-        refused-there (F.string none) (c .base) badLength (c .at) _ e (rw (string-behind, k .1)) f
-
-    module _ (bytes : Bytes s) (h : (256 ^ lengthWidth form / 2 - 1) * 2 < v) where
-      is-null : signed (lengthWidth form) v ≡ negsuc 0
-      is-null =
-          let b : v < 256 ^ lengthWidth form = rw (a .0) (below (lengthWidth form) s c bytes) in
-          length-null form v b (omega (arith, even form, some-length form))
-
-      pub string-null : nullable ≡ true → StringRead (c .base) (from (readString form nullable) s c) (F.string none) d
-      unfolding readBody
-      string-null n =
-          let o : from (readString form nullable) s c ≡ got (F.string none) (d .at) = rw (string-behind, is-null, n) in
-          found-there (F.string none) (c .base) (d .at) _ _ _ d o refl (found .next)
-
-      pub string-no-null : (e : Cursor) → nullable ≡ false → e ≡ cursor (c .base) (c .at) badLength → StringRead (c .base) (from (readString form nullable) s c) (F.string none) e
-      unfolding readBody
-      string-no-null e n f = refused-there (F.string none) (c .base) badLength (c .at) _ e (rw (string-behind, is-null, n)) f
-
--- Where null is not admitted, a byte string that is read has a place.
-abbrev Placed : Outcome (Field Place) → Type 0
-Placed (got f next) = (p : Place) × (f ≡ F.string (some p))
-Placed (refused n at) = Unit
-
-placed-check : (t : Bool) (n at : ℕ) (o : Outcome (Field Place)) → Placed o → Placed (refuseIf t n at o)
-placed-check true n at o h = tt
-placed-check false n at o h = h
-
-placed-body : (form : Form) (s : List ℕ) (at : ℕ) (z : ℤ) (next : ℕ) → Placed (readBody form false s at z next)
-unfolding readBody
-placed-body form s at (pos n) next =
-    placed-check (tooLong form n) referenceTooLong at _
-    (placed-check (ltb (length s) (next + n)) fieldCut at _
-    (placed-check (not (isText form (take n (drop next s)))) notUtf8 at _ (place next n, refl)))
-placed-body form s at (negsuc zero) next = tt
-placed-body form s at (negsuc (suc k)) next = tt
-
-placed-then : (o : Outcome ℕ) (k : ℕ → ℕ → Outcome (Field Place)) → ((x next : ℕ) → Placed (k x next)) → Placed (then o k)
-placed-then (got x next) k h = h x next
-placed-then (refused n at) k h = tt
-
-placed-from : (form : Form) (s : List ℕ) (c : Cursor) → Placed (from (readString form false) s c)
-unfolding readString
-placed-from form s c =
-    by-refused c
-    (λ h. rw (fresh (readString form false) s c h) (placed-then (readNumber (lengthWidth form) s (c .at)) _ (λ x next. placed-body form s (c .at) (signed (lengthWidth form) x) next)))
-    (λ h. rw (stays (readString form false) s c h) tt)
-
-module _ (form : Form) (s : List ℕ) (c : Cursor) (d : Cursor) where
-  pub string-found : (p : Place) → StringRead (c .base) (from (readString form false) s c) (placeField p) d → Reads (K.string form false) s c (placeField p) d
-  unfolding readField
-  string-found p r = record { read = by (from (readString form false) s c) (r .read); behind = r .behind }
+  -- What `is_null` tells, if a null is there.
+  pub null-there : isNull form s c ≡ true → (c .at + lengthWidth form ≤ length s) × (from (readString form true) s c ≡ got (F.string none) (c .at + lengthWidth form))
+  unfolding isNull readString readBody numberOrZero
+  null-there h = by (eqb (c .refused) 0) (eqb (numberOrZero (lengthWidth form) s (c .at)) largest) refl refl h
     where
-      by : (o : Outcome (Field Place)) → placeField p ≡ foundOr (F.string none) (moved (c .base) o) → placeField p ≡ foundOr (F.string (some (place 0 0))) (moved (c .base) o)
-      by (got f next) e = e
-      by (refused n at) e = absurd (Option·some-ne-none p (ap (λ (f : Field Place). f .octets) e))
+      read : c .refused ≡ 0 → c .at + lengthWidth form ≤ length s → numberOrZero (lengthWidth form) s (c .at) ≡ largest → from (readString form true) s c ≡ got (F.string none) (c .at + lengthWidth form)
+      read z l n =
+          let e : bigEndian (lengthWidth form) s (c .at) ≡ largest = sym (or-zero (lengthWidth form) s (c .at) l) ∙ n in
+          rw (fresh (readString form true) s c z, number-there (lengthWidth form) s (c .at) l, length-null form _ e)
 
-  pub string-missing : StringRead (c .base) (from (readString form false) s c) (F.string none) d → Reads (K.string form false) s c (F.string (some (place 0 0))) d
-  unfolding readField
-  string-missing r = record { read = by (from (readString form false) s c) (placed-from form s c) (r .read); behind = r .behind }
-    where
-      by : (o : Outcome (Field Place)) → Placed o → F.string none ≡ foundOr (F.string none) (moved (c .base) o) → F.string (some (place 0 0)) ≡ foundOr (F.string (some (place 0 0))) (moved (c .base) o)
-      by (got f next) h e = absurd (Option·none-ne-some (further (c .base) (h .0)) (ap (λ (f : Field Place). f .octets) (rw (h .1) at e)))
-      by (refused n at) h e = refl
+      there : numberOrZero (lengthWidth form) s (c .at) ≡ largest → c .at + lengthWidth form ≤ length s
+      there n = by-room (leb (c .at + lengthWidth form) (length s)) refl n
+        where
+          by-room : (t : Bool) → leb (c .at + lengthWidth form) (length s) ≡ t → cond t (bigEndian (lengthWidth form) s (c .at)) 0 ≡ largest → c .at + lengthWidth form ≤ length s
+          by-room true e i = leb-true _ _ e
+          by-room false e i = absurd (omega (arith, i, some-length form))
+
+      by : (t u : Bool) → eqb (c .refused) 0 ≡ t → eqb (numberOrZero (lengthWidth form) s (c .at)) largest ≡ u → (t && u) ≡ true → (c .at + lengthWidth form ≤ length s) × (from (readString form true) s c ≡ got (F.string none) (c .at + lengthWidth form))
+      by true true i j z = let n = eqb-true _ _ j in (there n, read (eqb-true _ _ i) (there n) n)
+      by true false i j z = absurd (true≢false (sym z))
+      by false u i j z = absurd (true≢false (sym z))
+
+  module _ (bytes : Bytes s) (h : isNull form s c ≡ false) where
+    -- Else it makes no difference whether null is admitted.
+    same-read : from (readString form true) s c ≡ from (readString form false) s c
+    unfolding isNull readString readBody
+    same-read =
+        by-refused c
+        (λ z. rw (fresh (readString form true) s c z, fresh (readString form false) s c z)
+        (number-cases (lengthWidth form) s (c .at)
+        (λ o. then o (λ x next. readBody form true s (c .at) (signed (lengthWidth form) x) next) ≡ then o (λ x next. readBody form false s (c .at) (signed (lengthWidth form) x) next))
+        (λ l. same (bigEndian (lengthWidth form) s (c .at)) (integers (lengthWidth form) .range s (c .at) bytes) (λ e. not-largest z l e))
+        (λ l. refl)))
+        (λ z. rw (stays (readString form true) s c z, stays (readString form false) s c z))
+      where
+        not-largest : c .refused ≡ 0 → c .at + lengthWidth form ≤ length s → bigEndian (lengthWidth form) s (c .at) ≡ largest → ⊥
+        not-largest z l e = eqb-false _ _ (rw (eq-eqb _ _ z) at h) (or-zero (lengthWidth form) s (c .at) l ∙ e)
+
+        below : (x : ℕ) → x < 256 ^ lengthWidth form → (x ≡ largest → ⊥) → suc x < 256 ^ lengthWidth form
+        below x l n = by (ltb (suc x) (256 ^ lengthWidth form)) refl
+          where
+            by : (t : Bool) → ltb (suc x) (256 ^ lengthWidth form) ≡ t → suc x < 256 ^ lengthWidth form
+            by true e = ltb-true _ _ e
+            by false e = let k : 256 ^ lengthWidth form ≤ suc x = ltb-false _ _ e in absurd (n (omega arith))
+
+        same : (x : ℕ) → x < 256 ^ lengthWidth form → (x ≡ largest → ⊥) → readBody form true s (c .at) (signed (lengthWidth form) x) (c .at + lengthWidth form) ≡ readBody form false s (c .at) (signed (lengthWidth form) x) (c .at + lengthWidth form)
+        same x l n = by (leb (256 ^ lengthWidth form / 2) x) refl
+          where
+            by : (t : Bool) → leb (256 ^ lengthWidth form / 2) x ≡ t → readBody form true s (c .at) (signed (lengthWidth form) x) (c .at + lengthWidth form) ≡ readBody form false s (c .at) (signed (lengthWidth form) x) (c .at + lengthWidth form)
+            by true e = rw (length-below form x (leb-true _ _ e) (below x l n) .1)
+            by false e = rw (below-half (lengthWidth form) x (leb-false _ _ e))
+
+    module _ (f : Field Place) (d : Cursor) (a : Reads (K.string form false) s c f d) where
+      pub nullable-missing : (d .refused ≡ 0 → ⊥) → Reads (K.string form true) s c (F.string none) d
+      unfolding readField
+      nullable-missing z = rw same-read (missing-with _ _ _ _ _ _ z a)
+
+      pub nullable-found : d .refused ≡ 0 → Reads (K.string form true) s c f d
+      unfolding readField
+      nullable-found z = rw same-read (found-with _ _ _ _ _ _ (numbered-from (readField (K.string form false)) (λ t at. numbered-field (K.string form false) t at) s c) z a)

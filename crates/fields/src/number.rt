@@ -2,6 +2,7 @@
 ghost use mathlib.Core.List.{[]};
 ghost use mathlib.Core.Path.{_≡_};
 ghost use Prim.Native.Nat.{_-_, _^_, _<_};
+ghost use lib.Dec.{leb};
 ghost use Rattle.protocol.specs.Fields.{number, integer};
 ghost use Rattle.protocol.specs.Kinds.{unsigned, u16, u32, u64, i64, active};
 ghost use Rattle.rules.specs.Reading.{readNumber};
@@ -130,6 +131,13 @@ pub fn write_active(w: Writer, out: &mut [u8], value: u64) -> Writer
     ensures { λ r. ⌜ state r (now (out .exit)) ≡ stepField active [] (number value) (state w (now (out .entry))) ⌝ }
 {
     write_unsigned(w, out, Width::One, 1, value)
+}
+
+// Whether a number fits a width.
+pub fn is_number(width: Width, value: u64) -> bool
+    ensures { λ r. ⌜ r ≡ leb value (256 ^ widthOf width - 1) ⌝ }
+{
+    value <= largest(width)
 }
 
 // The largest number of a width.

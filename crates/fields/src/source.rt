@@ -8,8 +8,6 @@ pub fn is_outside(src: &[u8], place: Place) -> bool
     ensures { λ r. ⌜ r ≡ outside place (now (src .entry)) ⌝ }
 {
     let at = place.at;
-    if src.len() < at {
-        return true;
-    }
-    src.len() - at < place.len
+    let len = place.len;
+    !wire::has_room(src.len(), at, len)
 }

@@ -91,21 +91,17 @@ join m (suc n) s at =
 
 -- A number that is there, and one that is cut.
 module _ (n : ℕ) (s : List ℕ) (at : ℕ) where
-  pub there : at + n ≤ length s → numberAt n s at ≡ Value (bigEndian n s at)
+  there : at + n ≤ length s → numberAt n s at ≡ Value (bigEndian n s at)
   unfolding numberAt
   there h = rw (le-leb _ _ h)
 
-  pub cut : length s < at + n → numberAt n s at ≡ Cut
+  cut : length s < at + n → numberAt n s at ≡ Cut
   unfolding numberAt
   cut h = rw (lt-leb _ _ h)
 
   pub or-zero : at + n ≤ length s → numberOrZero n s at ≡ bigEndian n s at
   unfolding numberOrZero
   or-zero h = rw (le-leb _ _ h)
-
-  pub zero-if-cut : length s < at + n → numberOrZero n s at ≡ 0
-  unfolding numberOrZero
-  zero-if-cut h = rw (lt-leb _ _ h)
 
   -- What the answer tells.
   pub is-there : (v : ℕ) → Value v ≡ numberAt n s at → (at + n ≤ length s) × (v ≡ bigEndian n s at)

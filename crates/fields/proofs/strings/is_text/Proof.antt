@@ -1,7 +1,7 @@
 -- By the form.
 use borrow.Author.Needs.{needs}
-use Rattle.fields.proofs.text.is_text.Statement.{statement}
-use Rattle.fields.proofs.text.is_text.Tie as tie
+use Rattle.fields.proofs.strings.is_text.Statement.{statement}
+use Rattle.fields.proofs.strings.is_text.Tie as tie
 
 pub is-text-spec : {M : Type 1} → statement M
 is-text-spec =

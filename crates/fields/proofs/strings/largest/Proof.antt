@@ -1,10 +1,10 @@
--- By the form.
+-- The numbers are those of the widths.
 use borrow.Author.Needs.{needs}
-use Rattle.fields.proofs.text.minus_one.Statement.{statement}
-use Rattle.fields.proofs.text.minus_one.Tie as tie
+use Rattle.fields.proofs.strings.largest.Statement.{statement}
+use Rattle.fields.proofs.strings.largest.Tie as tie
 
-pub minus-one-spec : {M : Type 1} → statement M
-minus-one-spec =
+pub largest-spec : {M : Type 1} → statement M
+largest-spec =
     tie.close
     (tie.spec
     (λ c. search needs)

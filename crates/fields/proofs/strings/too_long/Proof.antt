@@ -1,10 +1,10 @@
--- The numbers are those of the widths.
+-- By the form.
 use borrow.Author.Needs.{needs}
-use Rattle.fields.proofs.text.largest.Statement.{statement}
-use Rattle.fields.proofs.text.largest.Tie as tie
+use Rattle.fields.proofs.strings.too_long.Statement.{statement}
+use Rattle.fields.proofs.strings.too_long.Tie as tie
 
-pub largest-spec : {M : Type 1} → statement M
-largest-spec =
+pub too-long-spec : {M : Type 1} → statement M
+too-long-spec =
     tie.close
     (tie.spec
     (λ c. search needs)

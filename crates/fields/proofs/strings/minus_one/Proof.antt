@@ -1,10 +1,10 @@
 -- By the form.
 use borrow.Author.Needs.{needs}
-use Rattle.fields.proofs.text.too_long.Statement.{statement}
-use Rattle.fields.proofs.text.too_long.Tie as tie
+use Rattle.fields.proofs.strings.minus_one.Statement.{statement}
+use Rattle.fields.proofs.strings.minus_one.Tie as tie
 
-pub too-long-spec : {M : Type 1} → statement M
-too-long-spec =
+pub minus-one-spec : {M : Type 1} → statement M
+minus-one-spec =
     tie.close
     (tie.spec
     (λ c. search needs)
