@@ -59,10 +59,7 @@ pub fn slot(slots: &[u64], at: usize, i: usize) -> u64
 pub fn put_slots(slots: &mut [u64], at: usize, values: &[u64])
     ensures { λ _. ⌜ now (slots .exit) ≡ cond (leb (at + length (now (values .entry))) (length (now (slots .entry)))) (splice (now (slots .entry)) at (now (values .entry))) (now (slots .entry)) ⌝ }
 {
-    if slots.len() < at {
-        return;
-    }
-    if slots.len() - at < values.len() {
+    if !wire::has_room(slots.len(), at, values.len()) {
         return;
     }
     let mut i = 0;
