@@ -15,40 +15,12 @@ mod reading;
 
 pub use reading::read;
 
-// A number of a width that is there. It is written out, and not a loop, so that it is inlined and made one load.
+// A number of a width that is there.
 fn number(s: &[u8], at: usize, width: Width) -> u64
     requires { ⌜ at + widthOf width ≤ length (now s) ⌝ }
     ensures { λ r. ⌜ r ≡ bigEndian (widthOf width) (now (s .entry)) at ⌝ }
 {
-    match width {
-        Width::One => one(s, at) as u64,
-        Width::Two => two(s, at) as u64,
-        Width::Three => two(s, at) as u64 * 0x100 + one(s, at + 2) as u64,
-        Width::Four => four(s, at) as u64,
-        Width::Eight => four(s, at) as u64 * 0x1_0000_0000 + four(s, at + 4) as u64,
-    }
-}
-
-// One sum: the compiler sees a load in it, which it does not in a sum of halves.
-fn four(s: &[u8], at: usize) -> u32
-    requires { ⌜ at + 4 ≤ length (now s) ⌝ }
-    ensures { λ r. ⌜ r ≡ bigEndian 4 (now (s .entry)) at ⌝ }
-{
-    one(s, at) * 0x100_0000 + one(s, at + 1) * 0x1_0000 + one(s, at + 2) * 0x100 + one(s, at + 3)
-}
-
-fn two(s: &[u8], at: usize) -> u32
-    requires { ⌜ at + 2 ≤ length (now s) ⌝ }
-    ensures { λ r. ⌜ (r ≡ bigEndian 2 (now (s .entry)) at) × (r < 0x1_0000) ⌝ }
-{
-    one(s, at) * 0x100 + one(s, at + 1)
-}
-
-fn one(s: &[u8], at: usize) -> u32
-    requires { ⌜ at + 1 ≤ length (now s) ⌝ }
-    ensures { λ r. ⌜ (r ≡ bigEndian 1 (now (s .entry)) at) × (r < 0x100) ⌝ }
-{
-    s[at] as u32
+    wire::number_or_zero(s, at, width)
 }
 
 // A signed number of one byte, and of four, as its 64 bits.

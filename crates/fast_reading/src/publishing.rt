@@ -4,6 +4,7 @@ ghost use Rattle.fast_reading.specs.Answer.{ReadsAs};
 use crate::filled::first_eight;
 use crate::filled::first_six;
 use crate::number;
+use fields::reference_end;
 use fields::text_end;
 use lists::messages_end;
 use wire::Width;
@@ -17,11 +18,8 @@ pub fn declare_publisher(s: &[u8], slots: &mut [u64; 24]) -> bool
     }
     let correlation_id = number(s, 0, Width::Four);
     let publisher_id = number(s, 4, Width::One);
-    let stream = text_end(s, 5);
+    let stream = reference_end(s, 5);
     if stream == 0 {
-        return false;
-    }
-    if 263 < stream {
         return false;
     }
     let end = text_end(s, stream);

@@ -10,26 +10,27 @@ use lib.Dec.{eqb, ltb}
 use lib.IntN.{negsuc}
 use lib.ListN.{length}
 use borrow.Author.Tests.{ltb-true, ltb-false, eqb-true, eqb-false, not-true, not-false}
-use Rattle.wire.specs.Integers.{numberOrZero}
+use Rattle.wire.specs.Integers.{bigEndian, numberOrZero}
 use Rattle.wire.specs.Signed.{signed}
 use Rattle.wire.proofs.TwosComplement.{below-half, above-half}
 use Rattle.wire.proofs.Widths.{or-zero}
-use Rattle.protocol.specs.Kinds.{lengthWidth}
+use Rattle.protocol.specs.Kinds.{lengthWidth, string}
 use Rattle.protocol.specs.Fields.{place}
+use Rattle.protocol.specs.Fields as F
 use Rattle.protocol.specs.declared.kind.Form.{Form}
 use Rattle.protocol.specs.declared.kind.Form.the-variants.{Bytes as Raw}
 use Rattle.rules.specs.Outcome.{Outcome, got, refused, then, repeated}
-use Rattle.rules.specs.Reading.{readString, readBody}
+use Rattle.rules.specs.Reading.{readString, readBody, readField}
 use Rattle.rules.specs.Writing.{writeString}
 use Rattle.rules.proofs.Bounds.{Numbered, Bounded, numbered-repeated}
-use Rattle.rules.proofs.Numbers.{number-there, number-cut}
+use Rattle.rules.proofs.Numbers.{number-there, number-cut, number-cases}
 use Rattle.fields.specs.Cursor.{cursor, landed}
 use Rattle.fields.specs.Ends.{endOf}
 use Rattle.fields.specs.Writer.{refusalOf}
 use Rattle.fields.specs.declared.cursor.Cursor.{Cursor}
 use Rattle.fields.proofs.Landing.{fresh}
 use Rattle.fields.proofs.Loops.{ends}
-use Rattle.fields.proofs.StringFields.{body-cut, body-read, body-refused, body-found, negative-refused}
+use Rattle.fields.proofs.StringFields.{admitted, body-cut, body-read, body-refused, body-found, negative-refused}
 
 -- A loop over things of one sort: what is left to read from the place reached ends where the whole does.
 module _ {A : Type 0} (read : List ℕ → ℕ → Outcome A) (s : List ℕ) where
@@ -121,6 +122,37 @@ module _ (form : Form) (s : List ℕ) (at : ℕ) (there : at + lengthWidth form 
 
     pub string-end : not r ≡ false → at + lengthWidth form + v ≡ endOf (readString form false s at)
     string-end h = rw (behind, body-found form s (at + lengthWidth form) v _ refl false at (eqb-true _ _ (sym f ∙ not-false r h)))
+
+-- What an end other than 0 tells.
+pub record StringAt (form : Form) (s : List ℕ) (at last : ℕ) : Type 0 where
+  pub len : ℕ
+  pub behind : last ≡ at + lengthWidth form + len
+  pub within : at + lengthWidth form + len ≤ length s
+  pub read : (nullable : Bool) → readField (string form nullable) s at ≡ got (F.string (some (place (at + lengthWidth form) (last - (at + lengthWidth form))))) last
+
+pub string-at : (form : Form) (s : List ℕ) (at last : ℕ) → last ≡ endOf (readString form false s at) → (last ≡ 0 → ⊥) → StringAt form s at last
+unfolding readString readField
+string-at form s at last h z =
+    number-cases w s at (λ o. last ≡ endOf (then o (λ x next. readBody form false s at (signed w x) next)) → StringAt form s at last)
+    (λ l e. by (eqb r 0) refl l e)
+    (λ l e. absurd (z e))
+    h
+  where
+    w : ℕ
+    w = lengthWidth form
+
+    n : ℕ
+    n = bigEndian w s at
+
+    r : ℕ
+    r = refusalOf (writeString form false s (some (place (at + w) n)))
+
+    by : (t : Bool) → eqb r 0 ≡ t → at + w ≤ length s → last ≡ endOf (readBody form false s at (signed w n) (at + w)) → StringAt form s at last
+    by true i l e =
+        let behind : last ≡ at + w + n = e ∙ ap endOf (body-found form s (at + w) n r refl false at (eqb-true _ _ i)) in
+        let len : last - (at + w) ≡ n = omega arith in
+        record { len = n; behind = behind; within = admitted form s (at + w) n (eqb-true _ _ i) .inside; read = λ nullable. rw (number-there w s at l, len, behind) (body-found form s (at + w) n r refl nullable at (eqb-true _ _ i)) }
+    by false i l e = absurd (z (e ∙ ap endOf (body-refused form s (at + w) n r refl at (eqb-false _ _ i))))
 
 -- Bytes: the code compares the length with the room behind it and with the largest length at once, by the least of the two.
 module _ (s : List ℕ) (at : ℕ) (there : at + 4 ≤ length s) (v : ℕ) (e : v ≡ numberOrZero 4 s at) (r : ℕ) (f : r ≡ cond (ltb (length s - (at + 4)) 0x7fff_ffff) (length s - (at + 4)) 0x7fff_ffff) where
