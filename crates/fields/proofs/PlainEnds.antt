@@ -4,7 +4,7 @@ use mathlib.Core.Path.{_≡_, refl, _∙_, sym, ap}
 use mathlib.Core.Bool.{Bool, true, false, cond, not}
 use mathlib.Core.List.{List}
 use mathlib.Core.Option.{some}
-use Prim.Native.Nat.{ℕ, zero, suc, _+_, _-_, _^_, _<_, _≤_}
+use Prim.Native.Nat.{ℕ, zero, suc, _+_, _-_, _/_, _^_, _<_, _≤_}
 use native.Mathlib.Omega.{arith}
 use lib.Dec.{eqb, ltb}
 use lib.IntN.{negsuc}
@@ -126,6 +126,7 @@ module _ (form : Form) (s : List ℕ) (at : ℕ) (there : at + lengthWidth form 
 -- What an end other than 0 tells.
 pub record StringAt (form : Form) (s : List ℕ) (at last : ℕ) : Type 0 where
   pub len : ℕ
+  pub short : len < 256 ^ lengthWidth form / 2
   pub behind : last ≡ at + lengthWidth form + len
   pub within : at + lengthWidth form + len ≤ length s
   pub read : (nullable : Bool) → readField (string form nullable) s at ≡ got (F.string (some (place (at + lengthWidth form) (last - (at + lengthWidth form))))) last
@@ -151,7 +152,8 @@ string-at form s at last h z =
     by true i l e =
         let behind : last ≡ at + w + n = e ∙ ap endOf (body-found form s (at + w) n r refl false at (eqb-true _ _ i)) in
         let len : last - (at + w) ≡ n = omega arith in
-        record { len = n; behind = behind; within = admitted form s (at + w) n (eqb-true _ _ i) .inside; read = λ nullable. rw (number-there w s at l, len, behind) (body-found form s (at + w) n r refl nullable at (eqb-true _ _ i)) }
+        let a = admitted form s (at + w) n (eqb-true _ _ i) in
+        record { len = n; short = a .short; behind = behind; within = a .inside; read = λ nullable. rw (number-there w s at l, len, behind) (body-found form s (at + w) n r refl nullable at (eqb-true _ _ i)) }
     by false i l e = absurd (z (e ∙ ap endOf (body-refused form s (at + w) n r refl at (eqb-false _ _ i))))
 
 -- Bytes: the code compares the length with the room behind it and with the largest length at once, by the least of the two.

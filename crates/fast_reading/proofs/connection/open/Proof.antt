@@ -12,7 +12,8 @@ use Rattle.slots.specs.Flat.{padded}
 use Rattle.fast_reading.specs.Answer.{ReadsAs}
 use Rattle.protocol.specs.declared.kind.Form.the-variants.{Text}
 use Rattle.fields.specs.Ends.{endOf}
-use Rattle.fast_reading.proofs.Rows.{reads, done, link, unsigned-read, text-at, text-read}
+use Rattle.fields.proofs.PlainEnds.{string-at}
+use Rattle.fast_reading.proofs.Rows.{reads, done, link, unsigned-read}
 use borrow.Author.Needs.{needs}
 use Rattle.fast_reading.proofs.connection.open.Statement.{statement}
 use Rattle.fast_reading.proofs.connection.open.Tie as tie
@@ -22,7 +23,7 @@ unfolding table rowIn
 row s old a e b l i j k =
     reads 0x0015 1 old _ refl
     (link (unsigned-read s b 4 0xffff_ffff 0 4 refl refl (omega arith))
-    (link (text-read s 4 e (text-at s 4 e j (λ z. omega arith))) done))
+    (link (string-at Text s 4 e j (λ z. omega arith) .read false) done))
     k
     (rw i)
 
