@@ -3,7 +3,6 @@
 use mathlib.Core.Path.{_≡_, refl, _∙_, sym, ap}
 use mathlib.Core.Bool.{true, false}
 use mathlib.Core.List.{List, [], _∷_, _++_, append-assoc}
-use mathlib.Core.Option.{some}
 use Prim.Native.Nat.{ℕ, zero, suc, _+_, _-_, _*_, _/_, _%_, _<_, _≤_}
 use native.Mathlib.Omega.{arith}
 use lib.ListN.{getD, length, take, drop}
@@ -21,25 +20,21 @@ use Rattle.rules.specs.Outcome.{Outcome, got, refused, repeated}
 use Rattle.rules.specs.Reading.{readRow}
 use Rattle.rules.specs.Writing.{Encoding, wrote, followed, writeString, writeOffset, writeList, writeRow}
 use Rattle.fields.specs.Ends.{endOf}
-use Rattle.fields.proofs.Encodings.{fits, string-bytes, position-fits}
+use Rattle.fields.proofs.Encodings.{fits, position-fits}
 use Rattle.fields.proofs.Parts.{lent}
+use Rattle.fields.proofs.StringFields.{Admitted, admitted-bytes}
 use Rattle.lists.proofs.FixedWidth.{repeated-read, of-width}
+use Rattle.slots.specs.Flat.{nullLength}
 use Rattle.slots.specs.Unflat.{slot, unflatOctets, unflatOffset, unflatRow}
-use Rattle.fast_writing.specs.Checks.{IsPart, IsText}
+use Rattle.fast_writing.specs.Checks.{IsPart}
 use Rattle.fast_writing.proofs.Chain.{joined, part-front, number-front, Encodes}
 use Rattle.fast_writing.proofs.Eights.{eight}
 
 -- ---- Fields
 
 module _ (src : List ℕ) (at len : ℕ) where
-  pub text-written : IsText src at len 0x7fff → writeString Text false src (some (place at len)) ≡ wrote (digits 2 len ++ take len (drop at src))
-  text-written t =
-      string-bytes Text false src (place at len) (omega (arith, t .short)) refl (le-ltb (length src) (at + len) (t .part .there)) (t .text)
-
-  pub reference-written : IsText src at len 256 → writeString Reference true src (unflatOctets true at len) ≡ wrote (digits 2 len ++ take len (drop at src))
-  reference-written t =
-      rw (ne-eqb len 18446744073709551615 (λ e. omega (arith, e, t .short)))
-      (string-bytes Reference true src (place at len) (omega (arith, t .short)) (le-ltb 256 len (t .short)) (le-ltb (length src) (at + len) (t .part .there)) (t .text))
+  pub reference-written : Admitted Reference src at len → writeString Reference true src (unflatOctets true at len) ≡ wrote (digits 2 len ++ take len (drop at src))
+  reference-written t = rw (ne-eqb len nullLength (λ e. omega (arith, e, t .short))) (admitted-bytes Reference src at len true t)
 
   module _ (part : IsPart src at len) where
     pub part-long : length (take len (drop at src)) ≡ len
@@ -140,7 +135,7 @@ module _ (s src : List ℕ) where
         list-row (elementRow PublishingId) (repeated-read bytes b (of-width PublishingId (λ z. omega (arith, z))) (slot s 3) 0 h ∙ ap (got tt) f)
 
   -- A publisher's declaration.
-  module _ (t : IsText src (slot s 4) (slot s 5) 256) (u : IsText src (slot s 6) (slot s 7) 0x7fff) where
+  module _ (t : Admitted Reference src (slot s 4) (slot s 5)) (u : Admitted Text src (slot s 6) (slot s 7)) where
     abbrev reference : List ℕ
     reference = take (slot s 5) (drop (slot s 4) src)
 
@@ -157,15 +152,15 @@ module _ (s src : List ℕ) where
         (one-in-front (digits 4 (slot s 2)) _ _ (digits 1 (slot s 3) ∷ digits 2 (slot s 5) ∷ reference ∷ digits 2 (slot s 7) ∷ declaredStream ∷ []) (fits 4 0xffff_ffff (slot s 2) (omega arith) a)
         (one-in-front (digits 1 (slot s 3)) _ _ (digits 2 (slot s 5) ∷ reference ∷ digits 2 (slot s 7) ∷ declaredStream ∷ []) (fits 1 0xff (slot s 3) (omega arith) b)
         (two-in-front (digits 2 (slot s 5)) reference _ _ (digits 2 (slot s 7) ∷ declaredStream ∷ []) (reference-written src (slot s 4) (slot s 5) t)
-        (two-in-front (digits 2 (slot s 7)) declaredStream _ _ [] (text-written src (slot s 6) (slot s 7) u) refl))))
+        (two-in-front (digits 2 (slot s 7)) declaredStream _ _ [] (admitted-bytes Text src (slot s 6) (slot s 7) false u) refl))))
 
     pub declare-row : slot s 2 ≤ 0xffff_ffff → slot s 3 ≤ 0xff → Encodes (rowWritten 0x0001 s src) declared (13 + slot s 5 + slot s 7)
     declare-row a b =
-        let l : length (joined declared) ≡ 4 + (1 + (2 + (slot s 5 + (2 + (slot s 7 + 0))))) = number-front 4 (slot s 2) _ _ (number-front 1 (slot s 3) _ _ (number-front 2 (slot s 5) _ _ (part-front reference _ (slot s 5) _ (part-length [] 0 src (slot s 4) (slot s 5) (t .part .there)) (number-front 2 (slot s 7) _ _ (part-front declaredStream [] (slot s 7) 0 (part-length [] 0 src (slot s 6) (slot s 7) (u .part .there)) refl))))) in
+        let l : length (joined declared) ≡ 4 + (1 + (2 + (slot s 5 + (2 + (slot s 7 + 0))))) = number-front 4 (slot s 2) _ _ (number-front 1 (slot s 3) _ _ (number-front 2 (slot s 5) _ _ (part-front reference _ (slot s 5) _ (part-length [] 0 src (slot s 4) (slot s 5) (t .inside)) (number-front 2 (slot s 7) _ _ (part-front declaredStream [] (slot s 7) 0 (part-length [] 0 src (slot s 6) (slot s 7) (u .inside)) refl))))) in
         record { is = declare-written a b; sized = omega (arith, l) }
 
   -- A subscription from an offset.
-  module _ (t : IsText src (slot s 4) (slot s 5) 0x7fff) (part : IsPart src (slot s 10) (slot s 11)) where
+  module _ (t : Admitted Text src (slot s 4) (slot s 5)) (part : IsPart src (slot s 10) (slot s 11)) where
     abbrev stream : List ℕ
     stream = take (slot s 5) (drop (slot s 4) src)
 
@@ -187,12 +182,12 @@ module _ (s src : List ℕ) where
           simp getD-drop
           (one-in-front (digits 4 (slot s 2)) _ _ (digits 1 (slot s 3) ∷ digits 2 (slot s 5) ∷ stream ∷ behindStream) (fits 4 0xffff_ffff (slot s 2) (omega arith) a)
           (one-in-front (digits 1 (slot s 3)) _ _ (digits 2 (slot s 5) ∷ stream ∷ behindStream) (fits 1 0xff (slot s 3) (omega arith) b)
-          (two-in-front (digits 2 (slot s 5)) stream _ _ behindStream (text-written src (slot s 4) (slot s 5) t)
+          (two-in-front (digits 2 (slot s 5)) stream _ _ behindStream (admitted-bytes Text src (slot s 4) (slot s 5) false t)
           (three-in-front (digits 2 4) (digits 4 (slot s 7 / 0x1_0000_0000)) (digits 4 (slot s 7 % 0x1_0000_0000)) _ _ (digits 2 (slot s 8) ∷ digits 4 (slot s 9) ∷ properties ∷ []) (offset-written (slot s 6) (slot s 7) type v)
           (one-in-front (digits 2 (slot s 8)) _ _ (digits 4 (slot s 9) ∷ properties ∷ []) (fits 2 0xffff (slot s 8) (omega arith) w)
           (two-in-front (digits 4 (slot s 9)) properties _ _ [] (list-written src (slot s 10) (slot s 11) part (elementRow Property) (slot s 9) n e) refl))))))
 
       pub subscribe-row : Encodes (rowWritten 0x0007 s src) subscribed (27 + slot s 5 + slot s 11)
       subscribe-row =
-          let l : length (joined subscribed) ≡ 4 + (1 + (2 + (slot s 5 + (2 + (4 + (4 + (2 + (4 + (slot s 11 + 0))))))))) = number-front 4 (slot s 2) _ _ (number-front 1 (slot s 3) _ _ (number-front 2 (slot s 5) _ _ (part-front stream _ (slot s 5) _ (part-length [] 0 src (slot s 4) (slot s 5) (t .part .there)) (number-front 2 4 _ _ (number-front 4 (slot s 7 / 0x1_0000_0000) _ _ (number-front 4 (slot s 7 % 0x1_0000_0000) _ _ (number-front 2 (slot s 8) _ _ (number-front 4 (slot s 9) _ _ (part-front properties [] (slot s 11) 0 (part-length [] 0 src (slot s 10) (slot s 11) (part .there)) refl))))))))) in
+          let l : length (joined subscribed) ≡ 4 + (1 + (2 + (slot s 5 + (2 + (4 + (4 + (2 + (4 + (slot s 11 + 0))))))))) = number-front 4 (slot s 2) _ _ (number-front 1 (slot s 3) _ _ (number-front 2 (slot s 5) _ _ (part-front stream _ (slot s 5) _ (part-length [] 0 src (slot s 4) (slot s 5) (t .inside)) (number-front 2 4 _ _ (number-front 4 (slot s 7 / 0x1_0000_0000) _ _ (number-front 4 (slot s 7 % 0x1_0000_0000) _ _ (number-front 2 (slot s 8) _ _ (number-front 4 (slot s 9) _ _ (part-front properties [] (slot s 11) 0 (part-length [] 0 src (slot s 10) (slot s 11) (part .there)) refl))))))))) in
           record { is = subscribe-written; sized = omega (arith, l) }

@@ -1,10 +1,9 @@
 -- What the checks of this writer tell: each passes exactly if this holds. Where one fails, the general writer is asked.
 use mathlib.Core.Path.{_≡_}
-use mathlib.Core.Bool.{true, false}
+use mathlib.Core.Bool.{false}
 use mathlib.Core.List.{List}
 use Prim.Native.Nat.{ℕ, _+_, _<_, _≤_}
-use lib.ListN.{length, take, drop}
-use Rattle.unicode.specs.Utf8.{utf8}
+use lib.ListN.{length}
 use Rattle.rules.specs.Reading.{overLimit}
 use Rattle.slots.specs.Unflat.{slot}
 
@@ -18,12 +17,6 @@ pub record Fits (limit size room : ℕ) : Type 0 where
 pub record IsPart (src : List ℕ) (at len : ℕ) : Type 0 where
   pub short : len ≤ 0xffff_ffff
   pub there : at + len ≤ length src
-
--- A part of src is text of at most so many bytes.
-pub record IsText (src : List ℕ) (at len most : ℕ) : Type 0 where
-  pub short : len ≤ most
-  pub part : IsPart src at len
-  pub text : utf8 (take len (drop at src)) ≡ true
 
 -- The slots of a Deliver: its subscription id, and the numbers of a chunk's header of type 0, fit their fields, and records
 -- equals entries.

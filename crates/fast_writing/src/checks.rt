@@ -2,7 +2,7 @@
 ghost use mathlib.Core.Bool.{true};
 ghost use mathlib.Core.Logic.{_↔_};
 ghost use mathlib.Core.Path.{_≡_};
-ghost use Rattle.fast_writing.specs.Checks.{Fits, IsPart, IsText};
+ghost use Rattle.fast_writing.specs.Checks.{Fits, IsPart};
 
 // Whether a frame of a Size is under the limit and has room.
 pub fn fits(limit: u32, size: usize, room: usize) -> bool
@@ -26,22 +26,5 @@ pub fn is_part(src: &[u8], at: usize, len: usize) -> bool
     if 0xffff_ffff < len {
         return false;
     }
-    if src.len() < at {
-        return false;
-    }
-    len <= src.len() - at
-}
-
-// Whether a part of src is text of at most so many bytes.
-pub fn is_text(src: &[u8], at: usize, len: usize, most: usize) -> bool
-    ensures { λ r. ⌜ (r ≡ true) ↔ IsText (now (src .entry)) at len most ⌝ }
-{
-    if most < len {
-        return false;
-    }
-    if !is_part(src, at, len) {
-        return false;
-    }
-    let end = at + len;
-    unicode::is_utf8(&src[at..end])
+    wire::has_room(src.len(), at, len)
 }

@@ -9,13 +9,15 @@ ghost use Rattle.fast_writing.specs.Checks.{IsHeader, IsWide};
 ghost use Rattle.fast_writing.specs.Puts.{putSlots};
 use crate::checks::fits;
 use crate::checks::is_part;
-use crate::checks::is_text;
 use crate::puts::put_eight;
 use crate::puts::put_head;
 use crate::puts::put_text;
 use crate::writing::Fast;
 use chunks::entries_end;
+use fields::is_number;
+use fields::is_string;
 use lists::properties_end;
+use protocol::Form;
 use wire::Width;
 
 // c u8 T spec u16 [T T]; another offset specification than an offset is left to the general writer.
@@ -31,19 +33,19 @@ pub fn subscribe(slots: &[u64; 24], src: &[u8], limit: u32, out: &mut [u8]) -> F
     let count = slots[9] as usize;
     let at = slots[10] as usize;
     let len = slots[11] as usize;
-    if 0xffff_ffff < correlation_id {
-        return Fast::Unwritten;
-    }
-    if 0xff < subscription_id {
-        return Fast::Unwritten;
-    }
-    if !is_text(src, stream, stream_len, 0x7fff) {
-        return Fast::Unwritten;
-    }
     if slots[6] != 4 {
         return Fast::Unwritten;
     }
-    if 0xffff < credit {
+    if !is_number(Width::Four, correlation_id) {
+        return Fast::Unwritten;
+    }
+    if !is_number(Width::One, subscription_id) {
+        return Fast::Unwritten;
+    }
+    if !is_string(src, stream, stream_len, Form::Text) {
+        return Fast::Unwritten;
+    }
+    if !is_number(Width::Two, credit) {
         return Fast::Unwritten;
     }
     if 0x7fff_ffff < count {
@@ -82,10 +84,10 @@ pub fn credit(slots: &[u64; 24], limit: u32, out: &mut [u8]) -> Fast
 {
     let subscription_id = slots[2];
     let credit = slots[3];
-    if 0xff < subscription_id {
+    if !is_number(Width::One, subscription_id) {
         return Fast::Unwritten;
     }
-    if 0xffff < credit {
+    if !is_number(Width::Two, credit) {
         return Fast::Unwritten;
     }
     if !fits(limit, 7, out.len()) {

@@ -2,11 +2,13 @@
 ghost use Rattle.fast_writing.specs.Answer.{WritesAs, writeRowOf};
 use crate::checks::fits;
 use crate::checks::is_part;
-use crate::checks::is_text;
 use crate::puts::put_head;
 use crate::puts::put_text;
 use crate::writing::Fast;
+use fields::is_number;
+use fields::is_string;
 use lists::messages_end;
+use protocol::Form;
 use wire::Width;
 
 // c u8 R? T
@@ -19,16 +21,16 @@ pub fn declare_publisher(slots: &[u64; 24], src: &[u8], limit: u32, out: &mut [u
     let reference_len = slots[5] as usize;
     let stream = slots[6] as usize;
     let stream_len = slots[7] as usize;
-    if 0xffff_ffff < correlation_id {
+    if !is_number(Width::Four, correlation_id) {
         return Fast::Unwritten;
     }
-    if 0xff < publisher_id {
+    if !is_number(Width::One, publisher_id) {
         return Fast::Unwritten;
     }
-    if !is_text(src, reference, reference_len, 256) {
+    if !is_string(src, reference, reference_len, Form::Reference) {
         return Fast::Unwritten;
     }
-    if !is_text(src, stream, stream_len, 0x7fff) {
+    if !is_string(src, stream, stream_len, Form::Text) {
         return Fast::Unwritten;
     }
     let size = 13 + reference_len + stream_len;
@@ -51,7 +53,7 @@ pub fn publish(slots: &[u64; 24], src: &[u8], limit: u32, out: &mut [u8]) -> Fas
     let count = slots[3] as usize;
     let at = slots[4] as usize;
     let len = slots[5] as usize;
-    if 0xff < publisher_id {
+    if !is_number(Width::One, publisher_id) {
         return Fast::Unwritten;
     }
     if 0x7fff_ffff < count {
@@ -87,7 +89,7 @@ pub fn publish_confirm(slots: &[u64; 24], src: &[u8], limit: u32, out: &mut [u8]
     let count = slots[3] as usize;
     let at = slots[4] as usize;
     let len = slots[5] as usize;
-    if 0xff < publisher_id {
+    if !is_number(Width::One, publisher_id) {
         return Fast::Unwritten;
     }
     if 0x7fff_ffff < count {

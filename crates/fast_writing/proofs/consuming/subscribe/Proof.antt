@@ -7,8 +7,10 @@ use lib.ListN.{getD}
 use Rattle.protocol.specs.Kinds.{elementRow}
 use Rattle.protocol.specs.declared.kind.Element.the-variants.{Property}
 use Rattle.rules.specs.Reading.{readRow}
+use Rattle.fast_writing.proofs.Checking.{passes}
 use Rattle.fast_writing.proofs.Chain.{frame-put, part-next, text-next, eight-next}
 use Rattle.fast_writing.proofs.Encoded.{all-read, subscribe-row}
+use Rattle.wire.proofs.Within.{room}
 use borrow.Author.Needs.{needs}
 use Rattle.fast_writing.proofs.consuming.subscribe.Statement.{statement}
 use Rattle.fast_writing.proofs.consuming.subscribe.Tie as tie
@@ -30,8 +32,11 @@ subscribe-spec =
     (λ c. search needs)
     (λ c κs. search needs)
     (λ c. search needs)
+    (λ c κs. search needs)
     (λ c. search needs)
+    (λ c κs. search needs)
     (λ c. search needs)
+    (λ c κs. search needs)
     (λ c. search needs)
     (λ c. search needs)
     (λ c κs. search needs)
@@ -40,7 +45,7 @@ subscribe-spec =
     (λ c.
     let there = c .before in
     let part = there .before in
-    let start = part .before .before .before .before .before .before .before .before .before .before .before .before .before .before .before .before .before .before .before .before in
+    let start = part .before .before .before .before .before .before .before .before .before .before .before .before .before .before .before .before .before .before .before .before .before .before .before in
     omega (arith, part .is-part .ensures .0 (not-false _ (there .if7 .left)) .there, start .good .1 .0 .0))
     (λ c. search needs)
     (λ c. search needs)
@@ -51,15 +56,13 @@ subscribe-spec =
     (λ c κs. search needs)
     (λ c. search needs)
     (λ c.
-    let named = c .before .before .before .before .before .before .before .before .before .before in
-    let name = named .before in
-    omega (arith, name .is-text .ensures .0 (not-false _ (named .if3 .left)) .short))
+    let named = c .before .before .before .before .before .before .before .before .before in
+    omega (arith, passes _ _ _ _ _ (named .before .is-string .ensures) (named .if4 .left) .short))
     (λ c.
     let there = c .before .before .before .before in
     let part = there .before in
-    let named = part .before .before .before .before .before in
-    let name = named .before in
-    omega (arith, name .is-text .ensures .0 (not-false _ (named .if3 .left)) .short, part .is-part .ensures .0 (not-false _ (there .if7 .left)) .short))
+    let named = part .before .before .before .before in
+    omega (arith, passes _ _ _ _ _ (named .before .is-string .ensures) (named .if4 .left) .short, part .is-part .ensures .0 (not-false _ (there .if7 .left)) .short))
     (λ c κs. search needs)
     (λ c. search needs)
     (λ c κs. search needs)
@@ -73,8 +76,8 @@ subscribe-spec =
     (λ c κs. search needs)
     (λ c.
     let roomy = c .before .before .before .before .before .before .before .before .before .before .before .before .before .before .before .before .before .before .before .before .before .before .before .before .before .before .before .before .before .before .before .before .before .before .before .before in
-    let room = roomy .before in
-    omega (arith, room .fits2 .ensures .0 (not-false _ (roomy .if10 .left)) .bound))
+    let limit = roomy .before in
+    omega (arith, limit .fits2 .ensures .0 (not-false _ (roomy .if10 .left)) .bound))
     (λ c.
     let o9 = c .before in
     let o8 = o9 .before .before .before .before in
@@ -97,23 +100,22 @@ subscribe-spec =
     let first = second .before .before .before .before in
     let head = first .before .before .before .before in
     let roomy = head .before .before in
-    let room = roomy .before in
-    let ended = room .before in
+    let limit = roomy .before in
+    let ended = limit .before in
     let properties = ended .before in
     let few = properties .before .before in
     let there = few .before in
     let part = there .before in
     let count = part .before in
     let credit = count .before in
-    let from = credit .before in
-    let named = from .before .before in
-    let name = named .before in
-    let short = name .before in
-    let known = short .before in
-    let start = known .before .before .before .before .before .before .before .before .before .before .before .before in
-    let t = name .is-text .ensures .0 (not-false _ (named .if3 .left)) in
+    let named = credit .before .before in
+    let short = named .before .before in
+    let known = short .before .before in
+    let from = known .before .before in
+    let start = from .before .before .before .before .before .before .before .before .before .before .before .before .before in
+    let t = passes _ _ _ _ _ (named .before .is-string .ensures) (named .if4 .left) in
     let p = part .is-part .ensures .0 (not-false _ (there .if7 .left)) in
     let src = start .args .src .now in
     let s = start .args .slots .now in
-    frame-put 0x0007 _ _ (start .args .out .now) _ _ _ _ (subscribe-row s src t p (known .if1 .left) (short .if2 .left) (from .if4 .left) (offset .put-eight .ensures .1) (credit .if5 .left) (count .if6 .left) (all-read (readRow (elementRow Property)) (getD s 9 0) src (getD s 10 0) (getD s 11 0) _ (properties .properties-end .ensures) (ended .if9 .left) (few .if8 .left))) (room .fits2 .ensures .0 (not-false _ (roomy .if10 .left)))
-    (part-next src _ _ _ _ _ _ _ (p .there) (put-next _ _ _ _ _ _ (put-next _ _ _ _ _ _ (eight-next _ _ _ _ _ _ (put-next _ _ _ _ _ _ (text-next src _ _ _ _ _ _ _ (t .part .there) (put-next _ _ _ _ _ _ (put-next _ _ _ _ _ _ (head .put-head .ensures) (first .put-number .ensures)) (second .put-number2 .ensures)) (text .put-text .ensures)) (type .put-number3 .ensures)) (offset .put-eight .ensures .0)) (granted .put-number4 .ensures)) (number .put-number5 .ensures)) (last .put-bytes .ensures))))
+    frame-put 0x0007 _ _ (start .args .out .now) _ _ _ _ (subscribe-row s src t p (room _ _ _ (known .before .is-number .ensures) (known .if2 .left)) (room _ _ _ (short .before .is-number2 .ensures) (short .if3 .left)) (from .if1 .left) (offset .put-eight .ensures .1) (room _ _ _ (credit .before .is-number3 .ensures) (credit .if5 .left)) (count .if6 .left) (all-read (readRow (elementRow Property)) (getD s 9 0) src (getD s 10 0) (getD s 11 0) _ (properties .properties-end .ensures) (ended .if9 .left) (few .if8 .left))) (limit .fits2 .ensures .0 (not-false _ (roomy .if10 .left)))
+    (part-next src _ _ _ _ _ _ _ (p .there) (put-next _ _ _ _ _ _ (put-next _ _ _ _ _ _ (eight-next _ _ _ _ _ _ (put-next _ _ _ _ _ _ (text-next src _ _ _ _ _ _ _ (t .inside) (put-next _ _ _ _ _ _ (put-next _ _ _ _ _ _ (head .put-head .ensures) (first .put-number .ensures)) (second .put-number2 .ensures)) (text .put-text .ensures)) (type .put-number3 .ensures)) (offset .put-eight .ensures .0)) (granted .put-number4 .ensures)) (number .put-number5 .ensures)) (last .put-bytes .ensures))))
