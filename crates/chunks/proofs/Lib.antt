@@ -2,4 +2,3 @@
 pub mod Entries
 pub mod ChunkTypes
 pub mod Chunks
-pub mod ChunkWriting

@@ -4,13 +4,20 @@ ghost use Rattle.protocol.specs.Fields.{place};
 ghost use Rattle.rules.specs.Outcome.{repeated};
 ghost use Rattle.rules.specs.Reading.{readEntry};
 ghost use Rattle.fields.specs.Cursor.{from, landed, foundOr};
-ghost use Rattle.fields.specs.Ends.{endOf};
+ghost use Rattle.chunks.specs.Stops.{stop, entriesFrom};
 use fields::Cursor;
 use fields::bytes_end;
 use fields::number_of;
 use protocol::Place;
 use protocol::refusal;
 use wire::Width;
+
+// Where reading stopped: behind what was read, and then `refused` is 0; or at the place at fault. It is two words, which
+// come back in registers.
+pub struct Stop {
+    pub at: usize,
+    pub refused: u8,
+}
 
 pub struct ReadEntry {
     // The message's place in the part.
@@ -60,44 +67,57 @@ pub fn skip_entries(s: &[u8], start: Cursor, count: usize) -> Cursor
     if start.refused != 0 {
         return start;
     }
-    let end = entries_end(s, at, count);
-    if end == 0 {
-        return each_entry(s, start, count);
+    let last = entries_end(s, at, count);
+    Cursor {
+        base: start.base,
+        at: last.at,
+        refused: last.refused,
     }
-    start.to(end)
 }
 
-// Behind so many entries, as a plain place; 0 where one is refused. An entry is laid out as bytes B are, and what a
-// negative length is there, the top bit is here: both are refused.
-pub fn entries_end(s: &[u8], start: usize, count: usize) -> usize
-    ensures { λ r. ⌜ r ≡ endOf (repeated readEntry count (now (s .entry)) start) ⌝ }
+// Records equals entries (10, at the place of records), that many entries from a place on, and nothing else (11).
+pub fn entries_of(s: &[u8], start: usize, entries: u64, records: u64, records_at: usize) -> Stop
+    ensures { λ r. ⌜ r ≡ stop (entriesFrom entries records «records_at» (now (s .entry)) start) ⌝ }
+{
+    if records != entries {
+        return Stop {
+            at: records_at,
+            refused: refusal::VALUE_NOT_ADMITTED,
+        };
+    }
+    let last = entries_end(s, start, entries as usize);
+    let at = last.at;
+    if last.refused != 0 {
+        return last;
+    }
+    if at < s.len() {
+        return Stop {
+            at: at,
+            refused: refusal::BYTES_LEFT,
+        };
+    }
+    last
+}
+
+// Behind so many entries. An entry is laid out as bytes B are, and what a negative length is there, the top bit is here:
+// both are refused, and which refusal it is, is asked where one is.
+fn entries_end(s: &[u8], start: usize, count: usize) -> Stop
+    ensures { λ r. ⌜ r ≡ stop (repeated readEntry count (now (s .entry)) start) ⌝ }
 {
     let mut at = start;
-    let mut i: usize = 0;
-    while i < count {
+    let mut left = count;
+    while left != 0 {
         let end = bytes_end(s, at);
         if end == 0 {
-            return 0;
+            let entry = read_entry(s, Cursor::within(at));
+            let next = entry.next;
+            return Stop {
+                at: next.at,
+                refused: next.refused,
+            };
         }
         at = end;
-        i += 1;
+        left -= 1;
     }
-    at
-}
-
-// Until the count is met or an entry is refused.
-fn each_entry(s: &[u8], start: Cursor, count: usize) -> Cursor
-    ensures { λ r. ⌜ r ≡ landed (start .base) (from (repeated readEntry count) (now (s .entry)) start) ⌝ }
-{
-    let mut c = start;
-    let mut i: usize = 0;
-    while i < count {
-        if c.refused != 0 {
-            return c;
-        }
-        let e = read_entry(s, c);
-        c = e.next;
-        i += 1;
-    }
-    c
+    Stop { at: at, refused: 0 }
 }

@@ -3,13 +3,13 @@ ghost use mathlib.Core.Path.{_≡_};
 ghost use Rattle.protocol.specs.Decision.{decide};
 ghost use Rattle.rules.specs.Reading.{readDecided, readLayout};
 ghost use Rattle.fast_reading.specs.Answer.{ReadsAs};
-ghost use Rattle.fast_reading.specs.Chunk.{OpenIf, chunkAt};
+ghost use Rattle.fast_reading.specs.Chunk.{chunkAt};
 use crate::filled::first_eight;
 use crate::filled::first_six;
 use crate::number;
 use crate::widened8;
 use crate::widened32;
-use chunks::entries_end;
+use chunks::chunk_end;
 use fields::text_end;
 use lists::properties_end;
 use wire::Width;
@@ -77,7 +77,7 @@ pub fn subscribe(s: &[u8], slots: &mut [u64; 24]) -> bool
     true
 }
 
-// u8 chunk, and u8 u64 chunk in version 2, with a chunk of type 0; the other types are left to the general reader.
+// u8 chunk, and u8 u64 chunk in version 2.
 pub fn deliver(s: &[u8], version: u64, slots: &mut [u64; 24]) -> bool
     ensures { λ r. ⌜ ReadsAs (readDecided (decide 0x0008 version) (now (s .entry))) (now (slots .entry)) r (now (slots .exit)) ⌝ }
 {
@@ -85,11 +85,13 @@ pub fn deliver(s: &[u8], version: u64, slots: &mut [u64; 24]) -> bool
     if at == 0 {
         return false;
     }
-    if !is_open_chunk(s, at) {
+    let end = chunk_end(s, at);
+    if end.refused != 0 {
         return false;
     }
     let subscription_id = number(s, 0, Width::One);
     let magic = widened8(number(s, at, Width::One));
+    let kind = widened8(number(s, at + 1, Width::One));
     let entries = number(s, at + 2, Width::Two);
     let records = number(s, at + 4, Width::Four);
     let timestamp = number(s, at + 8, Width::Eight);
@@ -106,7 +108,7 @@ pub fn deliver(s: &[u8], version: u64, slots: &mut [u64; 24]) -> bool
             1,
             subscription_id,
             magic,
-            0,
+            kind,
             entries,
             records,
             timestamp,
@@ -136,7 +138,7 @@ pub fn deliver(s: &[u8], version: u64, slots: &mut [u64; 24]) -> bool
         subscription_id,
         committed_chunk_id,
         magic,
-        0,
+        kind,
         entries,
         records,
         timestamp,
@@ -168,28 +170,4 @@ fn chunk_place(version: u64) -> usize
         2 => 9,
         _ => 0,
     }
-}
-
-// Whether a chunk of type 0 begins at a place and is whole, to the end of s.
-fn is_open_chunk(s: &[u8], at: usize) -> bool
-    ensures { λ r. ⌜ OpenIf (now (s .entry)) at r ⌝ }
-{
-    if s.len() < at {
-        return false;
-    }
-    if s.len() - at < 48 {
-        return false;
-    }
-    if number(s, at + 1, Width::One) != 0 {
-        return false;
-    }
-    let entries = number(s, at + 2, Width::Two);
-    if number(s, at + 4, Width::Four) != entries {
-        return false;
-    }
-    let data = at + 48;
-    if s.len() - data != number(s, at + 36, Width::Four) as usize {
-        return false;
-    }
-    entries_end(s, data, entries as usize) == s.len()
 }

@@ -17,7 +17,7 @@ use Rattle.rules.specs.Writing as rules
 use Rattle.protocol.specs.Fields.{place}
 use Rattle.fields.specs.Writer.{behind, copiedBehind}
 use Rattle.fast_writing.specs.Checks.{Fits}
-use Rattle.fast_writing.specs.Puts.{halves, putSlots}
+use Rattle.fast_writing.specs.Puts.{halves}
 
 -- What pieces make together.
 abbrev pub joined : List (List ℕ) → List ℕ
@@ -51,12 +51,9 @@ pub text-next : (src o q : List ℕ) (n m from len : ℕ) (h : Holds) → from +
 text-next src o q n m from len h l i j =
     part-next src (behind (digits 2 len) (holds o n) .bytes) q (behind (digits 2 len) (holds o n) .next) m from len (behind (digits 2 len) h) l (ap (behind (digits 2 len)) i) j
 
--- Two halves of a number, and all of a Deliver's numbers.
+-- Two halves of a number.
 pub eight-next : (o q : List ℕ) (n m v : ℕ) (h : Holds) → holds o n ≡ h → holds q m ≡ halves v (holds o n) → holds q m ≡ halves v h
 eight-next o q n m v h i j = j ∙ ap (halves v) i
-
-pub slots-next : (s o q : List ℕ) (n m : ℕ) (h : Holds) → holds o n ≡ h → holds q m ≡ putSlots s (holds o n) → holds q m ≡ putSlots s h
-slots-next s o q n m h i j = j ∙ ap (putSlots s) i
 
 -- A piece in front of others.
 pub part-front : (p b : List ℕ) (m k : ℕ) → length p ≡ m → length b ≡ k → length (p ++ b) ≡ m + k

@@ -1,133 +1,63 @@
--- What a Deliver is written as, where its checks pass. Assumes nothing.
-use mathlib.Core.Path.{_≡_, refl, _∙_, ap}
-use mathlib.Core.Bool.{true}
-use mathlib.Core.List.{List, [], _∷_, _++_, append-assoc}
-use Prim.Native.Nat.{ℕ, _+_, _/_, _%_, _^_}
+-- What a Deliver is written as, where its chunk is not refused. Assumes nothing.
+use mathlib.Core.Path.{_≡_, refl, _∙_, sym, ap}
+use mathlib.Core.List.{List, [], _∷_, _++_, append-assoc, append-nil}
+use Prim.Native.Nat.{ℕ, _+_, _≤_}
 use native.Mathlib.Omega.{arith}
-use lib.IntN.{ℤ, pos, negsuc}
 use lib.ListN.{length, take, drop}
-use lib.Seq.{getD-drop}
-use borrow.Author.Tests.{lt-ltb, le-ltb, eq-eqb}
+use lib.Seq.{getD-drop, drop-drop}
+use Rattle.wire.specs.Buffer.{Holds, holds}
 use Rattle.wire.specs.Integers.{digits}
-use Rattle.wire.specs.Signed.{signed, unsigned, Signed}
-use Rattle.wire.proofs.TwosComplement.{below-half, twos-complement}
-use Rattle.protocol.specs.Fields.{place}
+use Rattle.wire.specs.Signed.{unsigned}
+use Rattle.wire.proofs.Splice.{copied-there}
+use Rattle.protocol.specs.Fields.{place, bytesAt}
 use Rattle.protocol.specs.Table.{table, rowIn}
 use Rattle.protocol.specs.declared.chunk.ChunkHeader.{ChunkHeader}
+use Rattle.protocol.specs.declared.place.Place.{Place}
 use Rattle.rules.specs.Grammar.{encodeHeader}
-use Rattle.rules.specs.Outcome.{got, repeated}
-use Rattle.rules.specs.Reading.{readEntry}
-use Rattle.rules.specs.Writing.{wrote, fitsSigned, fitsHeader, writeChunk}
+use Rattle.rules.specs.Writing.{wrote}
+use Rattle.fields.specs.Writer.{behind, copiedBehind, putHeader}
 use Rattle.fields.proofs.Encodings.{fits}
-use Rattle.slots.specs.Unflat.{slot}
-use Rattle.fast_writing.specs.Checks.{IsPart, IsHeader, IsWide}
-use Rattle.fast_writing.proofs.Chain.{joined, part-front, number-front, Encodes}
-use Rattle.fast_writing.proofs.Encoded.{rowWritten, part-long}
-use Rattle.fast_writing.proofs.Eights.{eight}
+use Rattle.slots.specs.Unflat.{slot, unflatHeader}
+use Rattle.slot_fields.proofs.ChunkChecks.{ChunkWritten, chunk-length}
+use Rattle.fast_writing.proofs.Chain.{joined, puts, number-front, Encodes}
+use Rattle.fast_writing.proofs.Encoded.{rowWritten}
 
--- A number of eight bytes fits.
-signed-whole : (z : ℤ) → Signed 8 z → fitsSigned 8 z ≡ true
-signed-whole (pos x) h = lt-ltb _ _ h
-signed-whole (negsuc k) h = lt-ltb _ _ h
+-- The twelve numbers of a header, and the data.
+abbrev pieces : ChunkHeader → List ℕ → List (List ℕ)
+pieces h b =
+    digits 1 (unsigned 1 (h .magic)) ∷ digits 1 (unsigned 1 (h .«chunk_type»)) ∷ digits 2 (h .entries) ∷ digits 4 (h .records)
+    ∷ digits 8 (unsigned 8 (h .timestamp)) ∷ digits 8 (h .epoch) ∷ digits 8 (h .«first_offset») ∷ digits 4 (unsigned 4 (h .checksum))
+    ∷ digits 4 (h .«data_length») ∷ digits 4 (h .«trailer_length») ∷ digits 1 (h .«bloom_size») ∷ digits 3 (h .reserved)
+    ∷ b ∷ []
 
-regroup : (a b c d e f g h i j k l m n o p : List ℕ) → ((a ++ (b ++ (c ++ (d ++ ((e ++ f) ++ ((g ++ h) ++ ((i ++ j) ++ (k ++ (l ++ (m ++ (n ++ o))))))))))) ++ p) ++ [] ≡ joined (a ∷ b ∷ c ∷ d ∷ e ∷ f ∷ g ∷ h ∷ i ∷ j ∷ k ∷ l ∷ m ∷ n ∷ o ∷ p ∷ [])
-regroup a b c d e f g h i j k l m n o p = simp append-assoc
+in-pieces : (h : ChunkHeader) (b : List ℕ) → encodeHeader h ++ b ≡ joined (pieces h b)
+in-pieces h b = simp (append-assoc, append-nil)
 
-module _ (s src : List ℕ) (h : IsHeader s) (wide : IsWide s) where
-  -- The header as its slots have it, and as it is, since its magic, type and checksum are not negative.
-  abbrev found : ChunkHeader
-  found =
-      record {
-        magic = signed 8 (slot s 3);
-        «chunk_type» = signed 8 (slot s 4);
-        entries = slot s 5;
-        records = slot s 6;
-        timestamp = signed 8 (slot s 7);
-        epoch = slot s 8;
-        «first_offset» = slot s 9;
-        checksum = signed 8 (slot s 10);
-        «data_length» = slot s 11;
-        «trailer_length» = slot s 12;
-        «bloom_size» = slot s 13;
-        reserved = slot s 14;
-      }
+-- A chunk whose data is there, put behind what was put before.
+pub chunk-next : (src : List ℕ) (h : ChunkHeader) (p : Place) (o q : List ℕ) (n m : ℕ) (x : Holds) → p .at + p .len ≤ length src → holds o n ≡ x → holds q m ≡ copiedBehind src p (putHeader h (holds o n)) → holds q m ≡ puts (pieces h (bytesAt src p)) x
+chunk-next src h p o q n m x l i j =
+    j
+    ∙ copied-there (putHeader h (holds o n) .bytes) (putHeader h (holds o n) .next) src (p .at) (p .len) l
+    ∙ ap (λ (y : Holds). behind (bytesAt src p) (putHeader h y)) i
 
-  abbrev header : ChunkHeader
-  header =
-      record {
-        magic = pos (slot s 3);
-        «chunk_type» = pos 0;
-        entries = slot s 5;
-        records = slot s 6;
-        timestamp = signed 8 (slot s 7);
-        epoch = slot s 8;
-        «first_offset» = slot s 9;
-        checksum = pos (slot s 10);
-        «data_length» = slot s 11;
-        «trailer_length» = slot s 12;
-        «bloom_size» = slot s 13;
-        reserved = slot s 14;
-      }
+module _ (s src : List ℕ) (id : slot s 2 ≤ 0xff) (w : ChunkWritten src (unflatHeader (drop 3 s)) (place (slot (drop 3 s) 12) (slot (drop 3 s) 13))) where
+  abbrev chunk : List (List ℕ)
+  chunk = pieces (unflatHeader (drop 3 s)) (take (slot (drop 3 s) 13) (drop (slot (drop 3 s) 12) src))
 
-  not-negative : found ≡ header
-  not-negative =
-      let type : signed 8 (slot s 4) ≡ pos 0 = ap (signed 8) (h .type) ∙ below-half 8 0 (omega arith) in
-      rw (below-half 8 (slot s 3) (omega (arith, h .magic)), type, below-half 8 (slot s 10) (omega (arith, h .checksum)))
+  abbrev all : List (List ℕ)
+  all = digits 1 (slot s 2) ∷ chunk
 
-  header-fits : fitsHeader header ≡ true
-  header-fits =
-      rw (
-        lt-ltb (slot s 3) (256 ^ 1 / 2) (omega (arith, h .magic)),
-        lt-ltb (slot s 5) (256 ^ 2) (omega (arith, h .entries)),
-        lt-ltb (slot s 6) (256 ^ 4) (omega (arith, h .entries, h .records)),
-        signed-whole (signed 8 (slot s 7)) (twos-complement 7 .fits (slot s 7) (wide .timestamp)),
-        lt-ltb (slot s 8) (256 ^ 8) (wide .epoch),
-        lt-ltb (slot s 9) (256 ^ 8) (wide .first),
-        lt-ltb (slot s 10) (256 ^ 4 / 2) (omega (arith, h .checksum)),
-        lt-ltb (slot s 11) (256 ^ 4) (omega (arith, h .content)),
-        lt-ltb (slot s 12) (256 ^ 4) (omega (arith, h .trailer)),
-        lt-ltb (slot s 13) 256 (omega (arith, h .bloom)),
-        lt-ltb (slot s 14) (256 ^ 3) (omega (arith, h .reserved)),
-      )
+  deliver-written : rowWritten 0x0008 s src ≡ wrote (joined all)
+  unfolding rowIn table
+  deliver-written =
+      let first : slot (drop 2 s) 0 ≡ slot s 2 = getD-drop 2 s 0 0 in
+      let rest : drop 1 (drop 2 s) ≡ drop 3 s = drop-drop 1 2 s in
+      rw (first, rest, fits 1 0xff (slot s 2) (omega arith) id, w .is)
+      (ap (λ (b : List ℕ). wrote (digits 1 (slot s 2) ++ b)) (append-nil _ ∙ in-pieces (unflatHeader (drop 3 s)) (take (slot (drop 3 s) 13) (drop (slot (drop 3 s) 12) src))))
 
-  module _ (part : IsPart src (slot s 15) (slot s 11)) (same : slot s 16 ≡ slot s 11) (entries : repeated readEntry (slot s 5) (take (slot s 11) (drop (slot s 15) src)) 0 ≡ got tt (slot s 11)) where
-    abbrev bytes : List ℕ
-    bytes = take (slot s 11) (drop (slot s 15) src)
-
-    chunk-written : writeChunk src header (place (slot s 15) (slot s 11)) ≡ wrote (encodeHeader header ++ bytes)
-    unfolding writeChunk
-    chunk-written =
-        rw (
-          header-fits,
-          le-ltb (length src) (slot s 15 + slot s 11) (part .there),
-          le-ltb (slot s 11) (slot s 11) (omega arith),
-          eq-eqb (slot s 6) (slot s 5) (h .records),
-          entries,
-          le-ltb (slot s 11) (length bytes) (omega (arith, part-long src (slot s 15) (slot s 11) part)),
-        )
-
-    abbrev pieces : List (List ℕ)
-    pieces =
-        digits 1 (slot s 3) ∷ digits 1 0 ∷ digits 2 (slot s 5) ∷ digits 4 (slot s 6)
-        ∷ digits 4 (slot s 7 / 0x1_0000_0000) ∷ digits 4 (slot s 7 % 0x1_0000_0000)
-        ∷ digits 4 (slot s 8 / 0x1_0000_0000) ∷ digits 4 (slot s 8 % 0x1_0000_0000)
-        ∷ digits 4 (slot s 9 / 0x1_0000_0000) ∷ digits 4 (slot s 9 % 0x1_0000_0000)
-        ∷ digits 4 (slot s 10) ∷ digits 4 (slot s 11) ∷ digits 4 (slot s 12) ∷ digits 1 (slot s 13) ∷ digits 3 (slot s 14)
-        ∷ bytes ∷ []
-
-    in-pieces : (encodeHeader header ++ bytes) ++ [] ≡ joined pieces
-    unfolding unsigned
-    in-pieces =
-        let time : digits 8 (unsigned 8 (signed 8 (slot s 7))) ≡ digits 4 (slot s 7 / 0x1_0000_0000) ++ digits 4 (slot s 7 % 0x1_0000_0000) = ap (digits 8) (twos-complement 7 .unsigned-signed (slot s 7) (wide .timestamp)) ∙ eight (slot s 7) in
-        rw (time, eight (slot s 8), eight (slot s 9)) (regroup (digits 1 (slot s 3)) (digits 1 0) (digits 2 (slot s 5)) (digits 4 (slot s 6)) (digits 4 (slot s 7 / 0x1_0000_0000)) (digits 4 (slot s 7 % 0x1_0000_0000)) (digits 4 (slot s 8 / 0x1_0000_0000)) (digits 4 (slot s 8 % 0x1_0000_0000)) (digits 4 (slot s 9 / 0x1_0000_0000)) (digits 4 (slot s 9 % 0x1_0000_0000)) (digits 4 (slot s 10)) (digits 4 (slot s 11)) (digits 4 (slot s 12)) (digits 1 (slot s 13)) (digits 3 (slot s 14)) bytes)
-
-    deliver-written : rowWritten 0x0008 s src ≡ wrote (joined (digits 1 (slot s 2) ∷ pieces))
-    unfolding rowIn table
-    deliver-written =
-        simp getD-drop
-        (rw (fits 1 0xff (slot s 2) (omega arith) (h .id), not-negative, same, chunk-written, in-pieces))
-
-    pub deliver-row : Encodes (rowWritten 0x0008 s src) (digits 1 (slot s 2) ∷ pieces) (53 + slot s 11)
-    deliver-row =
-        let l : length (joined (digits 1 (slot s 2) ∷ pieces)) ≡ 1 + (1 + (1 + (2 + (4 + (4 + (4 + (4 + (4 + (4 + (4 + (4 + (4 + (4 + (1 + (3 + (slot s 11 + 0)))))))))))))))) = number-front 1 (slot s 2) _ _ (number-front 1 (slot s 3) _ _ (number-front 1 0 _ _ (number-front 2 (slot s 5) _ _ (number-front 4 (slot s 6) _ _ (number-front 4 (slot s 7 / 0x1_0000_0000) _ _ (number-front 4 (slot s 7 % 0x1_0000_0000) _ _ (number-front 4 (slot s 8 / 0x1_0000_0000) _ _ (number-front 4 (slot s 8 % 0x1_0000_0000) _ _ (number-front 4 (slot s 9 / 0x1_0000_0000) _ _ (number-front 4 (slot s 9 % 0x1_0000_0000) _ _ (number-front 4 (slot s 10) _ _ (number-front 4 (slot s 11) _ _ (number-front 4 (slot s 12) _ _ (number-front 1 (slot s 13) _ _ (number-front 3 (slot s 14) _ _ (part-front bytes [] (slot s 11) 0 (part-long src (slot s 15) (slot s 11) part) refl)))))))))))))))) in
-        record { is = deliver-written; sized = omega (arith, l) }
+  pub deliver-row : Encodes (rowWritten 0x0008 s src) all (53 + slot s 16)
+  deliver-row =
+      let l : length (joined all) ≡ 1 + length (joined chunk) = number-front 1 (slot s 2) _ _ refl in
+      let k : length (joined chunk) ≡ 48 + slot (drop 3 s) 13 = sym (ap length (in-pieces (unflatHeader (drop 3 s)) _)) ∙ chunk-length src (unflatHeader (drop 3 s)) (place (slot (drop 3 s) 12) (slot (drop 3 s) 13)) (w .inside) in
+      let m : slot (drop 3 s) 13 ≡ slot s 16 = getD-drop 3 s 13 0 in
+      record { is = deliver-written; sized = omega (arith, l, k, m) }

@@ -1,34 +1,30 @@
 -- What a writer does with each field that stands in slots, where the code goes by another way than the field's own writer.
 -- Assumes nothing.
 use mathlib.Core.Path.{_≡_, refl, _∙_, sym, ap}
-use mathlib.Core.Bool.{Bool, true, false, _&&_}
+use mathlib.Core.Bool.{true, false}
 use mathlib.Core.List.{List, []}
 use Prim.Native.Nat.{ℕ, zero, suc, _^_, _<_, _≤_}
 use native.Mathlib.Omega.{arith}
-use lib.ListN.{getD}
 use borrow.Author.Tests.{eq-eqb, ne-eqb}
-use Rattle.wire.specs.Buffer.{Holds, holds, copied}
+use Rattle.wire.specs.Buffer.{Holds, holds}
 use Rattle.wire.specs.Integers.{digits}
 use Rattle.wire.specs.Signed.{signed, unsigned}
 use Rattle.wire.proofs.TwosComplement.{twos-complement}
 use Rattle.fields.proofs.Encodings.{fits}
-use Rattle.protocol.specs.Fields.{place}
 use Rattle.protocol.specs.Fields as F
 use Rattle.protocol.specs.Kinds.{spec₀}
 use Rattle.protocol.specs.Kinds as K
 use Rattle.protocol.specs.Layouts.{kindSaid}
 use Rattle.protocol.specs.Refusals.{valueNotAdmitted}
-use Rattle.protocol.specs.declared.chunk.ChunkHeader.{ChunkHeader}
 use Rattle.protocol.specs.declared.kind.FieldKind.{FieldKind}
 use Rattle.protocol.specs.declared.offset.OffsetSpecification.{OffsetSpecification}
 use Rattle.protocol.specs.declared.offset.OffsetSpecification.the-variants.{Offset}
 use Rattle.protocol.specs.declared.place.Place.{Place}
-use Rattle.rules.specs.Reading.{isChunkType}
-use Rattle.rules.specs.Writing.{Encoding, refuse, wrote, fitsHeader, writeUnsigned, writeSigned, writeOffset, writeChunk}
+use Rattle.rules.specs.Writing.{Encoding, refuse, wrote, writeUnsigned, writeSigned, writeOffset}
 use Rattle.fields.specs.Writer.{State, state, stood, behind, step, stepField, putOffset}
 use Rattle.fields.specs.declared.writer.Writer.{Writer}
-use Rattle.slots.specs.Unflat.{unflatHeader, unflatOffset}
-use Rattle.slot_fields.specs.Writing.{stepFlat, stepKind}
+use Rattle.slots.specs.Unflat.{unflatOffset}
+use Rattle.slot_fields.specs.Writing.{stepKind}
 use Rattle.slot_fields.proofs.Narrowing.{whole-fits}
 
 -- What a writer does with a field, it does with the field of the slots, if they are the same.
@@ -81,22 +77,3 @@ pub unknown-put : (k v : ℕ) (w : Writer) (out : List ℕ) (u : State) → 5 < 
 unfolding step
 unknown-put k v w out u h z p i =
     offset-same (Offset (256 ^ 8)) (unflatOffset true k v) (state w out) u (sym (type-unknown k v h)) (i ∙ rw (eq-eqb (w .refused) 0 z, p) (ap stood (put-same (holds out (w .at)))))
-
--- ---- Chunks
-
-and-false : (a b : Bool) → b ≡ false → (a && b) ≡ false
-and-false true b e = e
-and-false false b e = refl
-
-pub unfit-refused : (src : List ℕ) (h : ChunkHeader) (p : Place) → fitsHeader h ≡ false → writeChunk src h p ≡ refuse valueNotAdmitted
-unfolding writeChunk
-unfit-refused src h p e = let k : (isChunkType (h .«chunk_type») && fitsHeader h) ≡ false = and-false (isChunkType (h .«chunk_type»)) (fitsHeader h) e in rw k
-
-pub copied-from : (o q src : List ℕ) (n m a b x y : ℕ) → a ≡ x → b ≡ y → holds q m ≡ copied o n src a b → holds q m ≡ copied o n src x y
-copied-from o q src n m a b x y e f i = i ∙ (λ j. copied o n src (e j) (f j))
-
-pub chunk-same : (src s : List ℕ) (h : ChunkHeader) (p : Place) (x y : ℕ) (t u : State) → h ≡ unflatHeader s → p ≡ place x y → x ≡ getD s 12 0 → y ≡ getD s 13 0 → u ≡ stepField K.chunk src (F.chunk h p) t → u ≡ stepFlat K.chunk src s t
-chunk-same src s h p x y t u e f i j k =
-    k
-    ∙ ap (λ (g : ChunkHeader). stepField K.chunk src (F.chunk g p) t) e
-    ∙ ap (λ (q : Place). stepField K.chunk src (F.chunk (unflatHeader s) q) t) (f ∙ (λ n. place (i n) (j n)))

@@ -1,6 +1,6 @@
 -- Lemmas that belong to no one function.
 mod FlatFields
-mod Fitting
+pub mod ChunkChecks
 mod Narrowing
 mod Into
 pub mod Walk

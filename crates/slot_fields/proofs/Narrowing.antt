@@ -3,12 +3,12 @@
 use mathlib.Core.Path.{_≡_, refl, _∙_, sym, ap}
 use mathlib.Core.Bool.{Bool, true, false, cond, _&&_}
 use mathlib.Core.List.{List}
-use Prim.Native.Nat.{ℕ, suc, _-_, _/_, _^_, _<_, _≤_}
+use Prim.Native.Nat.{ℕ, _-_, _/_, _^_, _<_, _≤_}
 use native.Mathlib.Omega.{arith}
 use lib.Dec.{ltb}
 use lib.IntN.{ℤ, pos, negsuc}
 use lib.ListN.{getD}
-use borrow.Author.Tests.{lt-ltb, ltb-true}
+use borrow.Author.Tests.{lt-ltb}
 use Rattle.wire.specs.Buffer.{holds}
 use Rattle.wire.specs.Integers.{digits}
 use Rattle.wire.specs.Signed.{signed, unsigned, Signed}
@@ -41,20 +41,6 @@ narrow-fits n x = fits-by n x (ltb x 0x8000_0000_0000_0000)
 -- What the test tells.
 pub fits-as : (n x : ℕ) (f t : Bool) → f ≡ narrowFits (256 ^ n / 2) x → f ≡ t → fitsSigned n (signed 8 x) ≡ t
 fits-as n x f t e i = sym (narrow-fits n x) ∙ sym e ∙ i
-
-is-signed : (n : ℕ) (z : ℤ) → fitsSigned n z ≡ true → Signed n z
-is-signed n (pos x) e = ltb-true _ _ e
-is-signed n (negsuc k) e = ltb-true _ _ e
-
-module _ (n x v : ℕ) (e : fitsSigned (suc n) (signed 8 x) ≡ true) (i : v ≡ narrow (256 ^ suc n - 1) x) where
-  bits : v ≡ unsigned (suc n) (signed 8 x)
-  bits = i ∙ narrow-bits (suc n) x
-
-  pub narrow-below : v < 256 ^ suc n
-  narrow-below = rw bits (twos-complement n .bits (signed 8 x) (is-signed (suc n) (signed 8 x) e))
-
-  pub narrow-back : signed (suc n) v ≡ signed 8 x
-  narrow-back = ap (signed (suc n)) bits ∙ twos-complement n .signed-unsigned (signed 8 x) (is-signed (suc n) (signed 8 x) e)
 
 -- A number of eight bytes fits.
 signed-whole : (z : ℤ) → Signed 8 z → fitsSigned 8 z ≡ true

@@ -1,5 +1,5 @@
 // Writing a chunk from its slots.
-ghost use mathlib.Core.Bool.{true, _&&_};
+ghost use mathlib.Core.Bool.{_&&_};
 ghost use mathlib.Core.Path.{_≡_};
 ghost use Prim.Native.Nat.{_^_};
 ghost use lib.Dec.{ltb};
@@ -8,21 +8,22 @@ ghost use Rattle.wire.specs.Buffer.{holds};
 ghost use Rattle.wire.specs.Integers.{digits};
 ghost use Rattle.wire.specs.Signed.{signed};
 ghost use Rattle.protocol.specs.Kinds as K;
-ghost use Rattle.rules.specs.Writing.{fitsHeader, fitsSigned};
-ghost use Rattle.fields.specs.Writer.{state, behind, putHeader};
-ghost use Rattle.slots.specs.Unflat.{unflatHeader};
+ghost use Rattle.rules.specs.Writing.{fitsHeader, fitsSigned, writeField};
+ghost use Rattle.fields.specs.Writer.{state, behind, putField, putHeader};
+ghost use Rattle.slots.specs.Unflat.{unflatField, unflatHeader};
 ghost use Rattle.slot_fields.specs.Narrow.{narrow, narrowFits};
-ghost use Rattle.slot_fields.specs.Writing.{stepFlat};
-use chunks::write_chunk;
+ghost use Rattle.slot_fields.specs.Writing.{refusalOf, stepFlat};
+use chunks::entries_of;
+use chunks::has_entries;
+use chunks::is_chunk_type;
 use fields::Writer;
-use protocol::Chunk;
-use protocol::ChunkHeader;
+use fields::is_outside;
+use protocol::Place;
 use protocol::refusal;
-use slots::place_of;
 use slots::slot;
 use wire::Width;
 
-// A header number that is too wide for its field gives 10, with the type.
+// A chunk whose slots start at a place.
 pub fn write_chunk_slots(w: Writer, src: &[u8], out: &mut [u8], slots: &[u64], at: usize) -> Writer
     ensures { λ r. ⌜ state r (now (out .exit)) ≡ stepFlat K.chunk (now (src .entry)) (drop at (now (slots .entry))) (state w (now (out .entry))) ⌝ }
 {
@@ -30,22 +31,60 @@ pub fn write_chunk_slots(w: Writer, src: &[u8], out: &mut [u8], slots: &[u64], a
     if w.refused != 0 {
         return w;
     }
-    let from = slot(slots, at, 12);
-    let len = slot(slots, at, 13);
     if w.putting {
-        let behind = put_header(out, place, slots, at);
-        return Writer::at_place(wire::put_bytes(out, behind, src, from as usize, len as usize));
+        return Writer::at_place(put_chunk(out, place, src, slots, at));
+    }
+    let number = chunk_refusal(src, slots, at);
+    if number != 0 {
+        return w.refuse(number);
+    }
+    let len = slot(slots, at, 13) as usize;
+    w.count(48 + len)
+}
+
+// The number that a chunk is refused with, 0 if it is written: type, and a header number too wide (10); the data's place (6);
+// data shorter than the data length (6), longer (11); and for type 0 the entries.
+pub fn chunk_refusal(src: &[u8], slots: &[u64], at: usize) -> u8
+    ensures { λ r. ⌜ r ≡ refusalOf (writeField K.chunk (now (src .entry)) (unflatField K.chunk (drop at (now (slots .entry))))) ⌝ }
+{
+    let kind = slot(slots, at, 1);
+    let data_length = slot(slots, at, 8) as usize;
+    let from = slot(slots, at, 12) as usize;
+    let len = slot(slots, at, 13) as usize;
+    let place = Place { at: from, len: len };
+    if !is_chunk_type(kind) {
+        return refusal::VALUE_NOT_ADMITTED;
     }
     if !header_fits(slots, at) {
-        return w.refuse(refusal::VALUE_NOT_ADMITTED);
+        return refusal::VALUE_NOT_ADMITTED;
     }
-    let header = header_of(slots, at);
-    let data = place_of(from, len);
-    let chunk = Chunk {
-        header: header,
-        data: data,
-    };
-    write_chunk(w, src, out, chunk)
+    if is_outside(src, place) {
+        return refusal::FIELD_CUT;
+    }
+    if len < data_length {
+        return refusal::FIELD_CUT;
+    }
+    if data_length < len {
+        return refusal::BYTES_LEFT;
+    }
+    if !has_entries(kind) {
+        return 0;
+    }
+    let end = from + len;
+    let entries = slot(slots, at, 2);
+    let records = slot(slots, at, 3);
+    let stop = entries_of(&src[from..end], 0, entries, records, 0);
+    stop.refused
+}
+
+// The header, and the data behind it.
+pub fn put_chunk(out: &mut [u8], place: usize, src: &[u8], slots: &[u64], at: usize) -> usize
+    ensures { λ r. ⌜ holds (now (out .exit)) r ≡ putField K.chunk (now (src .entry)) (unflatField K.chunk (drop at (now (slots .entry)))) (holds (now (out .entry)) place) ⌝ }
+{
+    let from = slot(slots, at, 12);
+    let len = slot(slots, at, 13);
+    let next = put_header(out, place, slots, at);
+    wire::put_bytes(out, next, src, from as usize, len as usize)
 }
 
 fn header_fits(slots: &[u64], at: usize) -> bool
@@ -127,53 +166,6 @@ fn narrowed(x: u64, ones: u64) -> u64
         return 0;
     }
     ones - below
-}
-
-// The numbers, which all fit.
-fn header_of(slots: &[u64], at: usize) -> ChunkHeader
-    requires { ⌜ fitsHeader (unflatHeader (drop at (now slots))) ≡ true ⌝ }
-    ensures { λ r. ⌜ r ≡ unflatHeader (drop at (now (slots .entry))) ⌝ }
-{
-    let magic = slot(slots, at, 0);
-    let kind = slot(slots, at, 1);
-    let entries = slot(slots, at, 2);
-    let records = slot(slots, at, 3);
-    let timestamp = slot(slots, at, 4);
-    let epoch = slot(slots, at, 5);
-    let first_offset = slot(slots, at, 6);
-    let checksum = slot(slots, at, 7);
-    let data_length = slot(slots, at, 8);
-    let trailer_length = slot(slots, at, 9);
-    let bloom_size = slot(slots, at, 10);
-    let reserved = slot(slots, at, 11);
-    ChunkHeader {
-        magic: signed_byte(magic),
-        chunk_type: signed_byte(kind),
-        entries: entries as u16,
-        records: records as u32,
-        timestamp: wire::signed64(timestamp),
-        epoch: epoch,
-        first_offset: first_offset,
-        checksum: signed_word(checksum),
-        data_length: data_length as u32,
-        trailer_length: trailer_length as u32,
-        bloom_size: bloom_size as u8,
-        reserved: reserved as u32,
-    }
-}
-
-fn signed_byte(x: u64) -> i8
-    requires { ⌜ fitsSigned 1 (signed 8 x) ≡ true ⌝ }
-    ensures { λ r. ⌜ r ≡ signed 8 x ⌝ }
-{
-    wire::signed8(narrowed(x, 0xff) as u8)
-}
-
-fn signed_word(x: u64) -> i32
-    requires { ⌜ fitsSigned 4 (signed 8 x) ≡ true ⌝ }
-    ensures { λ r. ⌜ r ≡ signed 8 x ⌝ }
-{
-    wire::signed32(narrowed(x, 0xffff_ffff) as u32)
 }
 
 // The twelve numbers, one behind another.

@@ -3,5 +3,7 @@ mod chunk;
 mod reading;
 mod writing;
 
+pub use chunk::chunk_refusal;
+pub use chunk::put_chunk;
 pub use reading::read_content;
 pub use writing::write_fields;

@@ -1,4 +1,4 @@
--- A negative type has its top bit set.
+-- The bits of a type that is none say so in any width.
 use Rattle.chunks.proofs.ChunkTypes.{user-bits}
 use Rattle.chunks.proofs.chunk_type.has_entries.Statement.{statement}
 use Rattle.chunks.proofs.chunk_type.has_entries.Tie as tie

@@ -1,4 +1,4 @@
--- A negative type has its top bit set.
+-- The bits of a type that is none say so in any width.
 use Rattle.chunks.proofs.ChunkTypes.{type-bits}
 use Rattle.chunks.proofs.chunk_type.is_chunk_type.Statement.{statement}
 use Rattle.chunks.proofs.chunk_type.is_chunk_type.Tie as tie

@@ -1,21 +1,18 @@
--- Each turn goes behind one entry; an end of 0 is the answer.
-use Prim.Native.Nat.{_≤_, _-_}
-use Rattle.chunks.proofs.Entries.{entry-end}
-use Rattle.fields.proofs.PlainEnds.{loop-start, loop-turn, loop-stopped, loop-ended}
-use Rattle.fields.specs.Ends.{endOf}
-use Rattle.rules.proofs.Bounds.{bounded-entry}
+-- What is left to read from the place reached is read as the whole is; an entry that is refused ends the walk.
+use mathlib.Core.Path.{_≡_, refl, _∙_, ap}
 use Rattle.rules.specs.Outcome.{repeated}
 use Rattle.rules.specs.Reading.{readEntry}
-use mathlib.Core.Path.{_≡_}
+use Rattle.chunks.specs.Stops.{stop}
+use Rattle.chunks.proofs.Entries.{entry-end, walk-turn, walk-stopped, walk-ended}
 use borrow.Author.Needs.{needs}
 use Rattle.chunks.proofs.entry.entries_end.Statement.{statement}
 use Rattle.chunks.proofs.entry.entries_end.Tie as tie
 
 abbrev Inv-loop : tie.InvT-loop
-Inv-loop s start count at₀ i₀ at i = (i ≤ count) × (endOf (repeated readEntry (count - i) s at) ≡ endOf (repeated readEntry count s start))
+Inv-loop s start count at₀ left₀ at left = repeated readEntry left s at ≡ repeated readEntry count s start
 
 abbrev μ-loop : tie.MeasureT-loop
-μ-loop s start count at₀ i₀ at i = count - i
+μ-loop s start count at₀ left₀ at left = left
 
 pub entries-end-spec : {M : Type 1} → statement M
 entries-end-spec =
@@ -23,10 +20,12 @@ entries-end-spec =
     (tie.spec
     Inv-loop
     μ-loop
-    (λ c. (search needs, loop-start _ _ _ _))
+    (λ c. refl)
     (λ c κs. search needs)
-    (λ c. loop-stopped _ _ (λ at. bounded-entry _ at) _ _ _ _ _ (c .before .before .loop-test .taken) (c .before .before .before .loop .inv .1) (entry-end _ _ _ (c .before .bytes-end .ensures)) (c .if1 .taken))
+    (λ c κs. search needs)
+    (λ c κs. search needs)
+    (λ c. walk-stopped _ _ _ (entry-end _ _ _ (c .before .before .before .before .bytes-end .ensures)) _ _ _ (c .before .before .before .before .before .loop-test .taken) (c .before .before .before .if1 .taken) (c .before .before .within .ensures) (c .before .read-entry .ensures .1) ∙ ap stop (c .before .before .before .before .before .before .loop .inv))
     (λ c. search needs)
     (λ c. search needs)
-    (λ c. (search needs, loop-turn _ _ _ _ _ _ _ (c .before .before .loop-test .taken) (c .before .before .before .loop .inv .1) (entry-end _ _ _ (c .before .bytes-end .ensures)) (c .if1 .left)))
-    (λ c. loop-ended _ _ _ _ _ _ (c .loop-test .left) (c .before .loop .inv .1)))
+    (λ c. walk-turn _ _ _ (entry-end _ _ _ (c .before .bytes-end .ensures)) _ (c .before .before .loop-test .taken) (c .if1 .left) ∙ c .before .before .before .loop .inv)
+    (λ c. walk-ended _ _ _ (c .loop-test .left) ∙ ap stop (c .before .loop .inv)))

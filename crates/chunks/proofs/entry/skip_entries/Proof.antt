@@ -1,8 +1,8 @@
--- A refused cursor stays; an end that is no 0 is the end; else the loop that carries a cursor answers.
-use Rattle.fields.proofs.Loops.{ends-refused}
-use Rattle.fields.proofs.PlainEnds.{end-landed}
-use Rattle.rules.proofs.Bounds.{numbered-entry}
+-- A refused cursor stays; another goes where the walk ends.
 use mathlib.Core.Path.{sym}
+use Rattle.rules.proofs.Bounds.{numbered-entry}
+use Rattle.fields.proofs.Loops.{ends-refused}
+use Rattle.chunks.proofs.Entries.{walk-landed}
 use borrow.Author.Needs.{needs}
 use Rattle.chunks.proofs.entry.skip_entries.Statement.{statement}
 use Rattle.chunks.proofs.entry.skip_entries.Tie as tie
@@ -13,7 +13,4 @@ skip-entries-spec =
     (tie.spec
     (λ c. sym (ends-refused _ numbered-entry _ _ _ (c .if1 .taken)))
     (λ c κs. search needs)
-    (λ c κs. search needs)
-    (λ c. c .each-entry .ensures)
-    (λ c κs. search needs)
-    (λ c. end-landed _ _ _ _ _ _ (c .before .before .before .if1 .left) (c .before .before .entries-end .ensures) (c .before .if2 .left) (c .to .ensures)))
+    (λ c. walk-landed _ _ _ _ (c .before .if1 .left) (c .entries-end .ensures)))

@@ -1,11 +1,14 @@
--- By the writer, and by whether the header fits.
-use mathlib.Core.Path.{_∙_, sym}
+-- By the writer, and by what the chunk is refused with.
+use mathlib.Core.Path.{_∙_, sym, ap}
+use Prim.Native.Nat.{ℕ, _+_}
+use native.Mathlib.Omega.{arith}
 use lib.ListN.{getD, drop}
-use borrow.Author.Tests.{not-true, not-false}
 use Rattle.protocol.specs.Fields.{place}
-use Rattle.fields.proofs.Steps.{stays, put-there, measured-there, refused-with, copied-next}
-use Rattle.slots.specs.Unflat.{unflatHeader}
-use Rattle.slot_fields.proofs.FlatFields.{unfit-refused, copied-from, chunk-same}
+use Rattle.fields.proofs.Steps.{stays, put-there, measured-there, refused-with, counted}
+use Rattle.protocol.specs.Kinds as K
+use Rattle.rules.specs.Writing.{writeField}
+use Rattle.slots.specs.Unflat.{unflatField, unflatHeader}
+use Rattle.slot_fields.proofs.ChunkChecks.{refused-as, written, chunk-length}
 use borrow.Author.Needs.{needs}
 use Rattle.slot_fields.proofs.chunk.write_chunk_slots.Statement.{statement}
 use Rattle.slot_fields.proofs.chunk.write_chunk_slots.Tie as tie
@@ -17,16 +20,12 @@ write-chunk-slots-spec =
     (λ c. stays _ _ _ _ (c .if1 .taken))
     (λ c κs. search needs)
     (λ c κs. search needs)
+    (λ c. c .before .before .out .given)
+    (λ c. put-there _ _ _ _ (c .before .before .before .before .before .before .if1 .left) _ _ _ (c .before .before .before .before .before .if2 .taken) (c .before .before .before .put-chunk .ensures) (c .at-place .ensures))
     (λ c κs. search needs)
     (λ c κs. search needs)
+    (λ c. measured-there _ _ _ _ (c .before .before .before .before .if1 .left) _ (c .before .before .before .if2 .left) (refused-with _ _ _ _ (refused-as (writeField K.chunk (c .before .before .before .before .before .before .before .before .before .args .src .now) (unflatField K.chunk (drop (c .before .before .before .before .before .before .before .before .before .args .at) (c .before .before .before .before .before .before .before .before .before .args .slots .now)))) _ (c .before .before .chunk-refusal .ensures) (c .before .if3 .taken)) (c .refuse .ensures)))
     (λ c κs. search needs)
-    (λ c. c .before .before .out2 .given ∙ c .before .before .before .before .before .before .out .given)
-    (λ c. put-there _ _ _ _ (c .before .before .before .before .before .before .before .before .before .before .before .before .if1 .left) _ _ _ (c .before .before .before .before .before .before .before .before .before .if2 .taken) (copied-next (c .before .before .before .before .before .before .before .before .before .before .before .before .before .before .before .before .before .args .src .now) (place (getD (drop (c .before .before .before .before .before .before .before .before .before .before .before .before .before .before .before .before .before .args .at) (c .before .before .before .before .before .before .before .before .before .before .before .before .before .before .before .before .before .args .slots .now)) 12 0) (getD (drop (c .before .before .before .before .before .before .before .before .before .before .before .before .before .before .before .before .before .args .at) (c .before .before .before .before .before .before .before .before .before .before .before .before .before .before .before .before .before .args .slots .now)) 13 0)) _ _ _ _ _ (c .before .before .before .before .before .before .before .put-header .ensures) (copied-from _ _ _ _ _ _ _ _ _ (c .before .before .before .before .before .before .before .before .before .before .before .slot .ensures) (c .before .before .before .before .before .before .before .before .before .before .slot2 .ensures) (c .before .before .before .put-bytes .ensures))) (c .at-place .ensures))
+    (λ c. omega (arith, (written (c .before .before .before .before .before .before .before .before .before .args .src .now) (unflatHeader (drop (c .before .before .before .before .before .before .before .before .before .args .at) (c .before .before .before .before .before .before .before .before .before .args .slots .now))) (place (getD (drop (c .before .before .before .before .before .before .before .before .before .args .at) (c .before .before .before .before .before .before .before .before .before .args .slots .now)) 12 0) (getD (drop (c .before .before .before .before .before .before .before .before .before .args .at) (c .before .before .before .before .before .before .before .before .before .args .slots .now)) 13 0)) _ (c .before .before .chunk-refusal .ensures) (c .before .if3 .left)) .inside, c .slot .ensures))
     (λ c κs. search needs)
-    (λ c κs. search needs)
-    (λ c. measured-there _ _ _ _ (c .before .before .before .before .before .before .if1 .left) _ (c .before .before .before .if2 .left) (refused-with _ _ _ _ (unfit-refused (c .before .before .before .before .before .before .before .before .before .before .before .args .src .now) (unflatHeader (drop (c .before .before .before .before .before .before .before .before .before .before .before .args .at) (c .before .before .before .before .before .before .before .before .before .before .before .args .slots .now))) (place (getD (drop (c .before .before .before .before .before .before .before .before .before .before .before .args .at) (c .before .before .before .before .before .before .before .before .before .before .before .args .slots .now)) 12 0) (getD (drop (c .before .before .before .before .before .before .before .before .before .before .before .args .at) (c .before .before .before .before .before .before .before .before .before .before .before .args .slots .now)) 13 0)) (sym (c .before .before .header-fits .ensures) ∙ not-true _ (c .before .if3 .taken))) (c .refuse .ensures)))
-    (λ c κs. sym (c .before .header-fits .ensures) ∙ not-false _ (c .if3 .left))
-    (λ c κs. search needs)
-    (λ c κs. search needs)
-    (λ c. search needs)
-    (λ c. chunk-same (c .before .before .before .before .before .before .before .before .before .before .before .before .before .before .before .before .args .src .now) (drop (c .before .before .before .before .before .before .before .before .before .before .before .before .before .before .before .before .args .at) (c .before .before .before .before .before .before .before .before .before .before .before .before .before .before .before .before .args .slots .now)) _ _ _ _ _ _ (c .before .before .before .before .before .header-of .ensures) (c .before .before .before .before .place-of .ensures) (c .before .before .before .before .before .before .before .before .before .before .slot .ensures) (c .before .before .before .before .before .before .before .before .before .slot2 .ensures) (c .before .before .write-chunk .ensures)))
+    (λ c. let w = (written (c .before .before .before .before .before .before .before .before .before .before .args .src .now) (unflatHeader (drop (c .before .before .before .before .before .before .before .before .before .before .args .at) (c .before .before .before .before .before .before .before .before .before .before .args .slots .now))) (place (getD (drop (c .before .before .before .before .before .before .before .before .before .before .args .at) (c .before .before .before .before .before .before .before .before .before .before .args .slots .now)) 12 0) (getD (drop (c .before .before .before .before .before .before .before .before .before .before .args .at) (c .before .before .before .before .before .before .before .before .before .before .args .slots .now)) 13 0)) _ (c .before .before .before .chunk-refusal .ensures) (c .before .before .if3 .left)) in measured-there _ _ _ _ (c .before .before .before .before .before .if1 .left) _ (c .before .before .before .before .if2 .left) (counted _ _ _ _ _ (w .is) (chunk-length (c .before .before .before .before .before .before .before .before .before .before .args .src .now) (unflatHeader (drop (c .before .before .before .before .before .before .before .before .before .before .args .at) (c .before .before .before .before .before .before .before .before .before .before .args .slots .now))) (place (getD (drop (c .before .before .before .before .before .before .before .before .before .before .args .at) (c .before .before .before .before .before .before .before .before .before .before .args .slots .now)) 12 0) (getD (drop (c .before .before .before .before .before .before .before .before .before .before .args .at) (c .before .before .before .before .before .before .before .before .before .before .args .slots .now)) 13 0)) (w .inside) ∙ ap (λ (n : ℕ). 48 + n) (sym (c .before .slot .ensures))) (c .count .ensures))))

@@ -1,0 +1,2 @@
+-- Chunks and their entries.
+pub mod Stops
