@@ -9,18 +9,28 @@ use native.Mathlib.Numerals.{add-one}
 use native.Mathlib.Omega.{arith}
 use lib.Dec.{ltb, leb, eqb}
 use lib.ListN.{length, take, drop, length-append, length-drop}
-use lib.Seq.{take-all, drop-append-le, drop-drop}
+use lib.Seq.{take-all, drop-append-le, drop-drop, getD-drop}
 use borrow.Author.Tests.{lt-ltb, le-ltb, ltb-false, le-leb, lt-leb, leb-true, leb-false, eqb-true, eqb-false}
 use Rattle.wire.specs.Buffer.{Holds, holds, splice}
+use Rattle.wire.specs.Integers.{Bytes}
 use Rattle.wire.proofs.Splice.{splice-none, splice-splice, length-splice}
-use Rattle.captures.specs.Text.{ascii, decimal, joined, puts}
-use Rattle.captures.specs.Listing.{Next, framed, whole, cut, refused, more, following, closes, frameLine, cutLine, refusedLine, closingLine, linesFrom, linesOf}
-use Rattle.captures.specs.Steps.{goesOn, greatest, tooLong, begun, halted, advanced, printed, moved, Steps, Rest, behind, Lists, Stopped, Stops}
-use Rattle.captures.specs.declared.listing.Progress.{Progress}
-use Rattle.captures.specs.declared.listing.State.{State}
-use Rattle.captures.specs.declared.listing.State.the-variants.{Going, More, Done, TooLong}
-use Rattle.captures.proofs.Texts.{joined-append, puts-fit, decimal-most, hex-length, piece-most, no-piece-most}
-use Rattle.captures.proofs.Followings.{window-tells, framed-there, lines-unfold}
+use Rattle.protocol.specs.Fields.{Fields}
+use Rattle.protocol.specs.declared.place.Place.{Place}
+use Rattle.rules.specs.Reading.{readFrame}
+use Rattle.slots.specs.Flat.{slotsAfter}
+use Rattle.captures.specs.Following.{Next, framed, whole, cut, refused, more, following, Rest}
+use Rattle.captures.specs.Answer.{told}
+use Rattle.captures.specs.declared.walker.Next.{Next as Answer}
+use Rattle.captures.specs.declared.walker.Next.the-variants.{Frame}
+use Rattle.captures.proofs.Followings.{Tells, tells, framed-there, KeySlots, key-slots, window-tells}
+use Rattle.listing_text.specs.Text.{ascii, decimal, joined, puts}
+use Rattle.listing_text.specs.Listing.{limit, closes, frameLine, cutLine, refusedLine, closingLine, linesFrom, linesOf}
+use Rattle.listing_text.specs.Steps.{goesOn, greatest, tooLong, begun, halted, advanced, printed, moved, Steps, behind, Lists, Stopped, Stops}
+use Rattle.listing_text.specs.declared.listing.Progress.{Progress}
+use Rattle.listing_text.specs.declared.listing.State.{State}
+use Rattle.listing_text.specs.declared.listing.State.the-variants.{Going, More, Done, TooLong}
+use Rattle.listing_text.proofs.Texts.{joined-append, puts-fit, decimal-most, hex-length, piece-most, no-piece-most}
+use Rattle.listing_text.proofs.Lines.{lines-unfold}
 
 -- No step prints more than 128 bytes.
 closing-most : (k : ℕ) (ending : List ℕ) → length ending ≤ 9 → length (joined (closingLine k ending)) ≤ 36
@@ -31,20 +41,20 @@ both-most : (ps qs : List (List ℕ)) (m n : ℕ) → length (joined ps) ≤ m �
 both-most ps qs m n h k = rw (joined-append ps qs, length-append (joined ps) (joined qs)) (omega (arith, h, k))
 
 printed-most : (n : Next) (p : Progress) → length (joined (printed n p)) ≤ 128
-printed-most (framed total key version) p = by (tooLong (p .offset) (p .frames) total)
+printed-most (framed f total) p = by (tooLong (p .offset) (p .frames) total)
   where
-    line : length (joined (frameLine (p .offset) total key version)) ≤ 68
+    line : length (joined (frameLine (p .offset) total (f .key) (f .version))) ≤ 68
     line =
         piece-most (decimal (p .offset)) _ 20 48 (decimal-most _)
         (piece-most (ascii " ") _ 1 47 (omega arith)
         (piece-most (decimal total) _ 20 27 (decimal-most _)
         (piece-most (ascii " ") _ 1 26 (omega arith)
-        (piece-most _ _ 4 22 (let e = hex-length key in omega (arith, e))
+        (piece-most _ _ 4 22 (let e = hex-length (f .key) in omega (arith, e))
         (piece-most (ascii " ") _ 1 21 (omega arith)
-        (piece-most (decimal version) _ 20 1 (decimal-most _)
+        (piece-most (decimal (f .version)) _ 20 1 (decimal-most _)
         (piece-most (ascii "\n") _ 1 0 (omega arith) no-piece-most)))))))
 
-    by : (t : Bool) → length (joined (cond t [] (frameLine (p .offset) total key version))) ≤ 128
+    by : (t : Bool) → length (joined (cond t [] (frameLine (p .offset) total (f .key) (f .version)))) ≤ 128
     by true = let h = no-piece-most in omega (arith, h)
     by false = omega (arith, line)
 printed-most whole p = let h = closing-most (p .frames) (ascii " whole\n") (omega arith) in omega (arith, h)
@@ -73,18 +83,17 @@ printed-most (refused number) p =
 printed-most more p = let h = no-piece-most in omega (arith, h)
 
 -- What the window tells holds of the capture.
-known : (w rest : List ℕ) (ended : Bool) (n : Next) → Rest ended rest → following w ended ≡ n → (n ≡ more → ⊥) → following (w ++ rest) true ≡ n
-known w rest true n r e d = rw (r, append-nil w) e
-known w rest false n r e d = by (window-tells w rest)
+known : (w rest : List ℕ) (ended : Bool) (n : Next) → Rest ended rest → following w ended limit ≡ n → (n ≡ more → ⊥) → following (w ++ rest) true limit ≡ n
+known w rest ended n r e d = by (window-tells w rest ended limit r)
   where
-    by : (following w false ≡ more) ⊎ (following (w ++ rest) true ≡ following w false) → following (w ++ rest) true ≡ n
+    by : (following w ended limit ≡ more) ⊎ (following (w ++ rest) true limit ≡ following w ended limit) → following (w ++ rest) true limit ≡ n
     by (inl x) = absurd (d (sym e ∙ x))
     by (inr y) = y ∙ e
 
 module _ (w : List ℕ) (ended : Bool) (p : Progress) (inside : p .from ≤ length w) where
-  lines-next : (n : Next) → following (drop (p .from) w) ended ≡ n → (n ≡ more → ⊥) → (rest : List ℕ) → Rest ended rest → linesOf (drop (p .from) (w ++ rest)) (p .offset) (p .frames) ≡ linesFrom n (p .offset) (p .frames) (λ t. linesOf (drop t (drop (p .from) (w ++ rest))) (p .offset + t) (suc (p .frames)))
+  lines-next : (n : Next) → following (drop (p .from) w) ended limit ≡ n → (n ≡ more → ⊥) → (rest : List ℕ) → Rest ended rest → linesOf (drop (p .from) (w ++ rest)) (p .offset) (p .frames) ≡ linesFrom n (p .offset) (p .frames) (λ t. linesOf (drop t (drop (p .from) (w ++ rest))) (p .offset + t) (suc (p .frames)))
   lines-next n e d rest r =
-      let f : following (drop (p .from) (w ++ rest)) true ≡ n = rw (drop-append-le (p .from) w rest inside) (known (drop (p .from) w) rest ended n r e d) in
+      let f : following (drop (p .from) (w ++ rest)) true limit ≡ n = rw (drop-append-le (p .from) w rest inside) (known (drop (p .from) w) rest ended n r e d) in
       lines-unfold (drop (p .from) (w ++ rest)) (p .offset) (p .frames)
       ∙ ap (λ (x : Next). linesFrom x (p .offset) (p .frames) (λ t. linesOf (drop t (drop (p .from) (w ++ rest))) (p .offset + t) (suc (p .frames)))) f
 
@@ -96,33 +105,33 @@ module _ (w : List ℕ) (ended : Bool) (p : Progress) (inside : p .from ≤ leng
   unfolding joined
   stays-there at s ps e b = (inside, refl, λ rest r. rw (e, b (linesOf (drop (p .from) (w ++ rest)) (p .offset) (p .frames))))
 
-  closing : (n : Next) (at : ℕ) → following (drop (p .from) w) ended ≡ n → (n ≡ more → ⊥) → ((f : ℕ → List ℕ) → linesFrom n (p .offset) (p .frames) f ≡ joined (printed n p)) → Leads (joined (printed n p)) (halted p at Done)
+  closing : (n : Next) (at : ℕ) → following (drop (p .from) w) ended limit ≡ n → (n ≡ more → ⊥) → ((f : ℕ → List ℕ) → linesFrom n (p .offset) (p .frames) f ≡ joined (printed n p)) → Leads (joined (printed n p)) (halted p at Done)
   closing n at e d g = (inside, refl, λ rest r. lines-next n e d rest r ∙ (g _ ∙ sym (append-nil (joined (printed n p)))))
 
-  leads : (n : Next) (at : ℕ) → following (drop (p .from) w) ended ≡ n → Leads (joined (printed n p)) (moved n p at)
-  leads (framed total key version) at e = by (tooLong (p .offset) (p .frames) total)
+  leads : (n : Next) (at : ℕ) → following (drop (p .from) w) ended limit ≡ n → Leads (joined (printed n p)) (moved n p at)
+  leads (framed f total) at e = by (tooLong (p .offset) (p .frames) total)
     where
-      there : (0 < total) × (total ≤ length (drop (p .from) w))
-      there = framed-there (drop (p .from) w) ended total key version e
+      there : total ≤ length (drop (p .from) w)
+      there = framed-there (drop (p .from) w) ended limit f total e .1
 
       on : (rest : List ℕ) → drop total (drop (p .from) (w ++ rest)) ≡ drop (p .from + total) (w ++ rest)
       on rest = drop-drop total (p .from) (w ++ rest)
 
-      by : (t : Bool) → Leads (joined (cond t [] (frameLine (p .offset) total key version))) (cond t (halted p at TooLong) (advanced p total at))
+      by : (t : Bool) → Leads (joined (cond t [] (frameLine (p .offset) total (f .key) (f .version)))) (cond t (halted p at TooLong) (advanced p total at))
       by true = stays-there at TooLong [] refl (λ l. refl)
       by false = (
-        let l = length-drop (p .from) w in omega (arith, there .1, l, inside),
+        let l = length-drop (p .from) w in omega (arith, there, l, inside),
         omega arith,
-        λ rest r. lines-next (framed total key version) e (λ z. absurd (let o : _≡_ {A = ℕ} 0 1 = cc in omega arith)) rest r
-            ∙ ap (λ (s : List ℕ). joined (frameLine (p .offset) total key version) ++ linesOf s (p .offset + total) (suc (p .frames))) (on rest)
-            ∙ ap (λ (k : ℕ). joined (frameLine (p .offset) total key version) ++ linesOf (drop (p .from + total) (w ++ rest)) (p .offset + total) k) (sym (add-one (p .frames))),
+        λ rest r. lines-next (framed f total) e (λ z. absurd (let o : _≡_ {A = ℕ} 0 1 = cc in omega arith)) rest r
+            ∙ ap (λ (s : List ℕ). joined (frameLine (p .offset) total (f .key) (f .version)) ++ linesOf s (p .offset + total) (suc (p .frames))) (on rest)
+            ∙ ap (λ (k : ℕ). joined (frameLine (p .offset) total (f .key) (f .version)) ++ linesOf (drop (p .from + total) (w ++ rest)) (p .offset + total) k) (sym (add-one (p .frames))),
       )
   leads whole at e = closing whole at e (λ z. absurd (let o : _≡_ {A = ℕ} 0 1 = cc in omega arith)) (λ f. refl)
   leads (cut left needed) at e = closing (cut left needed) at e (λ z. absurd (let o : _≡_ {A = ℕ} 0 1 = cc in omega arith)) (λ f. sym (joined-append (cutLine (p .offset) left needed) (closingLine (p .frames) (ascii " cut\n"))))
   leads (refused number) at e = closing (refused number) at e (λ z. absurd (let o : _≡_ {A = ℕ} 0 1 = cc in omega arith)) (λ f. sym (joined-append (refusedLine (p .offset) number) (closingLine (p .frames) (ascii " refused\n"))))
   leads more at e = stays-there at More [] refl (λ l. refl)
 
-  module _ (entry exit : List ℕ) (r : Progress) (n : Next) (e : following (drop (p .from) w) ended ≡ n) (s : Steps n p entry exit r) where
+  module _ (entry exit : List ℕ) (r : Progress) (n : Next) (e : following (drop (p .from) w) ended limit ≡ n) (s : Steps n p entry exit r) where
     pub step-lists : p .written + 128 ≤ length entry → Lists w ended p entry exit r
     step-lists room =
         let most = printed-most n p in
@@ -141,12 +150,12 @@ module _ (w : List ℕ) (ended : Bool) (p : Progress) (inside : p .from ≤ leng
         never : false ≡ true → (m : Progress) → (m .state ≡ Going) × (p .from < m .from)
         never z m = absurd (let o : _≡_ {A = ℕ} 0 1 = cc in omega arith)
 
-        of : (n : Next) → following (drop (p .from) w) ended ≡ n → goesOn (moved n p (r .written) .state) ≡ true → (moved n p (r .written) .state ≡ Going) × (p .from < moved n p (r .written) .from)
-        of (framed total key version) e g = by (tooLong (p .offset) (p .frames) total) g
+        of : (n : Next) → following (drop (p .from) w) ended limit ≡ n → goesOn (moved n p (r .written) .state) ≡ true → (moved n p (r .written) .state ≡ Going) × (p .from < moved n p (r .written) .from)
+        of (framed f total) e g = by (tooLong (p .offset) (p .frames) total) g
           where
             by : (t : Bool) → goesOn ((cond t (halted p (r .written) TooLong) (advanced p total (r .written))) .state) ≡ true → ((cond t (halted p (r .written) TooLong) (advanced p total (r .written))) .state ≡ Going) × (p .from < (cond t (halted p (r .written) TooLong) (advanced p total (r .written))) .from)
             by true g = never g (halted p (r .written) TooLong)
-            by false g = (refl, let a = framed-there (drop (p .from) w) ended total key version e in omega (arith, a .0))
+            by false g = (refl, let a = framed-there (drop (p .from) w) ended limit f total e in omega (arith, a .0))
         of whole e g = never g (halted p (r .written) Done)
         of (cut left needed) e g = never g (halted p (r .written) Done)
         of (refused number) e g = never g (halted p (r .written) Done)
@@ -160,11 +169,11 @@ module _ (w : List ℕ) (ended : Bool) (p : Progress) (inside : p .from ≤ leng
     step-stops len g =
         subst (Stops w ended len) (sym (s .place)) (of n e (ap (λ (x : Progress). goesOn (x .state)) (sym (s .place)) ∙ g))
       where
-        of : (n : Next) → following (drop (p .from) w) ended ≡ n → goesOn (moved n p (r .written) .state) ≡ false → Stops w ended len (moved n p (r .written))
-        of (framed total key version) e g = by (tooLong (p .offset) (p .frames) total) refl g
+        of : (n : Next) → following (drop (p .from) w) ended limit ≡ n → goesOn (moved n p (r .written) .state) ≡ false → Stops w ended len (moved n p (r .written))
+        of (framed f total) e g = by (tooLong (p .offset) (p .frames) total) refl g
           where
             by : (t : Bool) → tooLong (p .offset) (p .frames) total ≡ t → goesOn ((cond t (halted p (r .written) TooLong) (advanced p total (r .written))) .state) ≡ false → Stops w ended len (cond t (halted p (r .written) TooLong) (advanced p total (r .written)))
-            by true q g = (total, key, version, e, q)
+            by true q g = (f, total, e, q)
             by false q g = absurd (let o : _≡_ {A = ℕ} 0 1 = cc in omega arith)
         of whole e g = ap closes e
         of (cut left needed) e g = ap closes e
@@ -244,35 +253,48 @@ not-long offset frames total = by (ltb greatest (offset + total)) refl
     by true q e = absurd (let o : _≡_ {A = ℕ} 0 1 = cc in omega arith)
     by false q e = (ltb-false _ _ q, ltb-false _ _ e)
 
-pub steps-long : (p : Progress) (total key version : ℕ) (t : Bool) (out : List ℕ) (r : Progress) → t ≡ tooLong (p .offset) (p .frames) total → t ≡ true → r ≡ halted p (p .written) TooLong → Steps (framed total key version) p out out r
+pub steps-long : (p : Progress) (f : Fields Place) (total : ℕ) (t : Bool) (out : List ℕ) (r : Progress) → t ≡ tooLong (p .offset) (p .frames) total → t ≡ true → r ≡ halted p (p .written) TooLong → Steps (framed f total) p out out r
 unfolding puts
-steps-long p total key version t out r e f g =
-    let h : tooLong (p .offset) (p .frames) total ≡ true = sym e ∙ f in
+steps-long p f total t out r e i g =
+    let h : tooLong (p .offset) (p .frames) total ≡ true = sym e ∙ i in
     rw g (record { text = rw h; place = rw h })
 
-pub steps-frame : (p : Progress) (total key version at : ℕ) (t : Bool) (entry exit : List ℕ) → t ≡ tooLong (p .offset) (p .frames) total → t ≡ false → holds exit at ≡ puts entry (p .written) (frameLine (p .offset) total key version) → Steps (framed total key version) p entry exit (advanced p total at)
-steps-frame p total key version at t entry exit e f g =
-    let h : tooLong (p .offset) (p .frames) total ≡ false = sym e ∙ f in
-    record { text = rw h g; place = rw h }
+pub steps-frame : (p : Progress) (f : Fields Place) (total key version at : ℕ) (t : Bool) (entry exit : List ℕ) → t ≡ tooLong (p .offset) (p .frames) total → t ≡ false → f .key ≡ key → f .version ≡ version → holds exit at ≡ puts entry (p .written) (frameLine (p .offset) total key version) → Steps (framed f total) p entry exit (advanced p total at)
+steps-frame p f total key version at t entry exit e i k v g =
+    let h : tooLong (p .offset) (p .frames) total ≡ false = sym e ∙ i in
+    record { text = rw (h, k, v) g; place = rw h }
 
 pub steps-more : (p : Progress) (out : List ℕ) (r : Progress) → r ≡ halted p (p .written) More → Steps more p out out r
 unfolding puts
 steps-more p out r g = rw g (record { text = refl; place = refl })
 
-pub steps-next : (n m : Next) (p : Progress) (entry exit : List ℕ) (r : Progress) → n ≡ m → Steps n p entry exit r → Steps m p entry exit r
-steps-next n m p entry exit r e s = subst (λ (x : Next). Steps x p entry exit r) e s
-
 pub halted-at : (from offset frames : ℕ) (r : Progress) (at : ℕ) (exit : List ℕ) (h : Holds) (s : State) → holds exit at ≡ h → r ≡ record { from = from; offset = offset; frames = frames; written = at; state = s } → (holds exit (r .written) ≡ h) × (r ≡ record { from = from; offset = offset; frames = frames; written = r .written; state = s })
 halted-at from offset frames r at exit h s e f = rw f (e, refl)
 
--- The window from a place on, as it is lent.
-pub window-from : (w : List ℕ) (from : ℕ) (ended : Bool) (n : Next) → n ≡ following (take (length w - from) (drop from w)) ended → n ≡ following (drop from w) ended
-window-from w from ended n e =
-    let l : length (drop from w) ≤ length w - from = rw (length-drop from w) (omega arith) in
-    rw (take-all (length w - from) (drop from w) l) at e
+-- A frame at a place of the window lies in it, and its key and version are in the slots.
+pub record FrameAt (w : List ℕ) (from : ℕ) (ended : Bool) (size : ℕ) (slots : List ℕ) : Type 0 where
+  pub fields : Fields Place
+  pub next : following (drop from w) ended limit ≡ framed fields size
+  pub keyed : KeySlots fields slots
+  pub inside : from ≤ length w → from + size ≤ length w
 
-pub frame-inside : (w : List ℕ) (from : ℕ) (ended : Bool) (total key version : ℕ) → from ≤ length w → framed total key version ≡ following (take (length w - from) (drop from w)) ended → from + total ≤ length w
-frame-inside w from ended total key version h e =
-    let a = framed-there (drop from w) ended total key version (sym (window-from w from ended (framed total key version) e)) in
-    let l : total ≤ length w - from = subst (λ (n : ℕ). total ≤ n) (length-drop from w) (a .1) in
-    omega (arith, l, h)
+-- What the walker tells of the window from a place on, as it is lent.
+module _ (w : List ℕ) (from : ℕ) (ended : Bool) (r : Answer) (e : r ≡ told (following (take (length w - from) (drop from w)) ended limit)) where
+  lent : take (length w - from) (drop from w) ≡ drop from w
+  lent = take-all (length w - from) (drop from w) (rw (length-drop from w) (omega arith))
+
+  pub next-is : (x : Answer) → r ≡ x → Tells x (following (drop from w) ended limit)
+  next-is x g = tells x _ (sym g ∙ (rw lent at e))
+
+  pub frame-is : (size : ℕ) (old slots : List ℕ) → r ≡ Frame size → Bytes w → slots ≡ slotsAfter old (readFrame (take (length w - from) (drop from w)) limit) → FrameAt w from ended size slots
+  unfolding Bytes
+  frame-is size old slots g b i =
+      let n = next-is (Frame size) g in
+      let there = framed-there (drop from w) ended limit (n .0) size (n .1) in
+      let l = length-drop from w in
+      record {
+        fields = n .0;
+        next = n .1;
+        keyed = key-slots (drop from w) old slots ended limit (n .0) size (λ j. rw (getD-drop from w j 0) (b (from + j))) (n .1) (rw lent at i);
+        inside = λ h. omega (arith, there .1, l, h);
+      }

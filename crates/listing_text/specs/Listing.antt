@@ -1,54 +1,23 @@
 -- What the listing program prints for a capture (01 "The listing program").
 use mathlib.Core.Path.{_≡_}
-use mathlib.Core.Bool.{Bool, true, false, cond}
+use mathlib.Core.Bool.{Bool, true, false}
 use mathlib.Core.List.{List, [], _∷_, _++_}
-use mathlib.Core.Logic.{_⊎_}
-use Prim.Native.Nat.{ℕ, zero, suc, _+_, _<_}
+use Prim.Native.Nat.{ℕ, zero, suc, _+_}
 use lib.ListN.{length, drop}
-use Rattle.rules.specs.Exactness.{frameLength}
-use Rattle.rules.specs.Reading.{Reading, frame, short, refusal, readFrame}
-use Rattle.captures.specs.Text.{ascii, decimal, hex, joined}
+use Rattle.captures.specs.Following.{Next, framed, whole, cut, refused, more, following}
+use Rattle.listing_text.specs.Text.{ascii, decimal, hex, joined}
 
 -- The frame limit of a listing.
 abbrev pub limit : ℕ
 limit = 65532
 
--- What comes next in a capture: a frame with its total bytes, key and version; its end behind a frame; a frame that is
--- cut, of which so many bytes are left of so many; a refusal. Of a part that more bytes may follow the answer can be
--- that more are needed.
-pub data Next : Type 0 where
-  framed : ℕ → ℕ → ℕ → Next
-  whole : Next
-  cut : ℕ → ℕ → Next
-  refused : ℕ → Next
-  more : Next
-
-abbrev pub nextOf : Reading → Bool → ℕ → ℕ → Next
-nextOf (frame f) ended left total = framed total (f .key) (f .version)
-nextOf (short needed) ended left total = cond ended (cut left needed) more
-nextOf (refusal n at) ended left total = refused n
-
--- What comes next where s is what is left of a capture, or where more may follow s.
-unfoldable pub following : List ℕ → Bool → Next
-following [] ended = cond ended whole more
-following (b ∷ s) ended = nextOf (readFrame (b ∷ s) limit) ended (length (b ∷ s)) (frameLength (b ∷ s))
-
 -- What comes next closes the listing: the capture's end, after a frame or inside one, or a refusal.
 abbrev pub closes : Next → Bool
-closes (framed total key version) = false
+closes (framed f total) = false
 closes whole = true
 closes (cut left needed) = true
 closes (refused number) = true
 closes more = false
-
--- What comes next in a window is what comes next in the capture, unless more bytes are needed to tell.
-abbrev pub WindowTells : Type 0
-WindowTells = (w rest : List ℕ) → (following w false ≡ more) ⊎ (following (w ++ rest) true ≡ following w false)
-
--- Where more bytes are needed, fewer are there than the longest frame within the limit has. So a window that holds such a
--- frame always has room for more.
-abbrev pub MoreIsShort : Type 0
-MoreIsShort = (s : List ℕ) (ended : Bool) → following s ended ≡ more → length s < limit + 4
 
 -- One line a frame: offset, total bytes, key as four lower-case hex digits, version.
 abbrev pub frameLine : ℕ → ℕ → ℕ → ℕ → List (List ℕ)
@@ -70,7 +39,7 @@ closingLine k ending = ascii "frames " ∷ decimal k ∷ ending ∷ []
 -- The lines from what comes next on, at an offset, behind k frames; `behind` gives the lines behind a frame of so many
 -- bytes. The listing stops at the first refusal.
 abbrev pub linesFrom : Next → ℕ → ℕ → (ℕ → List ℕ) → List ℕ
-linesFrom (framed total key version) offset k behind = joined (frameLine offset total key version) ++ behind total
+linesFrom (framed f total) offset k behind = joined (frameLine offset total (f .key) (f .version)) ++ behind total
 linesFrom whole offset k behind = joined (closingLine k (ascii " whole\n"))
 linesFrom (cut left needed) offset k behind = joined (cutLine offset left needed) ++ joined (closingLine k (ascii " cut\n"))
 linesFrom (refused number) offset k behind = joined (refusedLine offset number) ++ joined (closingLine k (ascii " refused\n"))
@@ -79,7 +48,7 @@ linesFrom more offset k behind = []
 -- At most so many lines of s, which is what is left of a capture.
 unfoldable pub lines : ℕ → List ℕ → ℕ → ℕ → List ℕ
 lines zero s offset k = []
-lines (suc most) s offset k = linesFrom (following s true) offset k (λ total. lines most (drop total s) (offset + total) (suc k))
+lines (suc most) s offset k = linesFrom (following s true limit) offset k (λ total. lines most (drop total s) (offset + total) (suc k))
 
 -- All lines of s. No frame is empty, so there are at most as many as bytes.
 unfoldable pub linesOf : List ℕ → ℕ → ℕ → List ℕ
@@ -87,7 +56,7 @@ linesOf s offset k = lines (suc (length s)) s offset k
 
 -- They are the line of what comes next, and the lines of what is behind it.
 abbrev pub LinesUnfold : Type 0
-LinesUnfold = (s : List ℕ) (offset k : ℕ) → linesOf s offset k ≡ linesFrom (following s true) offset k (λ total. linesOf (drop total s) (offset + total) (suc k))
+LinesUnfold = (s : List ℕ) (offset k : ℕ) → linesOf s offset k ≡ linesFrom (following s true limit) offset k (λ total. linesOf (drop total s) (offset + total) (suc k))
 
 -- All that is printed for a capture.
 abbrev pub listing : List ℕ → List ℕ

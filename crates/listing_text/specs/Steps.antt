@@ -6,11 +6,14 @@ use Prim.Native.Nat.{ℕ, _+_, _≤_, _<_}
 use lib.Dec.{ltb}
 use lib.ListN.{length, drop}
 use Rattle.wire.specs.Buffer.{holds, splice}
-use Rattle.captures.specs.Text.{ascii, puts}
-use Rattle.captures.specs.Listing.{Next, framed, whole, cut, refused, more, following, closes, frameLine, cutLine, refusedLine, closingLine, linesOf}
-use Rattle.captures.specs.declared.listing.Progress.{Progress}
-use Rattle.captures.specs.declared.listing.State.{State}
-use Rattle.captures.specs.declared.listing.State.the-variants.{Going, More, Done, TooLong}
+use Rattle.protocol.specs.Fields.{Fields}
+use Rattle.protocol.specs.declared.place.Place.{Place}
+use Rattle.captures.specs.Following.{Next, framed, whole, cut, refused, more, following, Rest}
+use Rattle.listing_text.specs.Text.{ascii, puts}
+use Rattle.listing_text.specs.Listing.{limit, closes, frameLine, cutLine, refusedLine, closingLine, linesOf}
+use Rattle.listing_text.specs.declared.listing.Progress.{Progress}
+use Rattle.listing_text.specs.declared.listing.State.{State}
+use Rattle.listing_text.specs.declared.listing.State.the-variants.{Going, More, Done, TooLong}
 
 abbrev pub goesOn : State → Bool
 goesOn Going = true
@@ -40,14 +43,14 @@ advanced p total written = record { from = p .from + total; offset = p .offset +
 
 -- What a step prints of what comes next, and how far the listing is then.
 abbrev pub printed : Next → Progress → List (List ℕ)
-printed (framed total key version) p = cond (tooLong (p .offset) (p .frames) total) [] (frameLine (p .offset) total key version)
+printed (framed f total) p = cond (tooLong (p .offset) (p .frames) total) [] (frameLine (p .offset) total (f .key) (f .version))
 printed whole p = closingLine (p .frames) (ascii " whole\n")
 printed (cut left needed) p = cutLine (p .offset) left needed ++ closingLine (p .frames) (ascii " cut\n")
 printed (refused number) p = refusedLine (p .offset) number ++ closingLine (p .frames) (ascii " refused\n")
 printed more p = []
 
 abbrev pub moved : Next → Progress → ℕ → Progress
-moved (framed total key version) p written = cond (tooLong (p .offset) (p .frames) total) (halted p written TooLong) (advanced p total written)
+moved (framed f total) p written = cond (tooLong (p .offset) (p .frames) total) (halted p written TooLong) (advanced p total written)
 moved whole p written = halted p written Done
 moved (cut left needed) p written = halted p written Done
 moved (refused number) p written = halted p written Done
@@ -56,11 +59,6 @@ moved more p written = halted p written More
 pub record Steps (next : Next) (p : Progress) (entry exit : List ℕ) (r : Progress) : Type 0 where
   pub text : holds exit (r .written) ≡ puts entry (p .written) (printed next p)
   pub place : r ≡ moved next p (r .written)
-
--- What may follow a window: nothing, if the capture has ended.
-abbrev pub Rest : Bool → List ℕ → Type 0
-Rest true rest = rest ≡ []
-Rest false rest = Unit
 
 -- The lines behind those that are written.
 abbrev pub behind : State → List ℕ → List ℕ
@@ -86,9 +84,9 @@ pub record Lists (w : List ℕ) (ended : Bool) (p : Progress) (entry exit : List
 -- greatest offset or count.
 abbrev pub Stopped : State → List ℕ → Bool → ℕ → Progress → Type 0
 Stopped Going w ended len r = len < r .written + 128
-Stopped More w ended len r = following (drop (r .from) w) ended ≡ more
-Stopped Done w ended len r = closes (following (drop (r .from) w) ended) ≡ true
-Stopped TooLong w ended len r = (total : ℕ) × (key : ℕ) × (version : ℕ) × (following (drop (r .from) w) ended ≡ framed total key version) × (tooLong (r .offset) (r .frames) total ≡ true)
+Stopped More w ended len r = following (drop (r .from) w) ended limit ≡ more
+Stopped Done w ended len r = closes (following (drop (r .from) w) ended limit) ≡ true
+Stopped TooLong w ended len r = (f : Fields Place) × (total : ℕ) × (following (drop (r .from) w) ended limit ≡ framed f total) × (tooLong (r .offset) (r .frames) total ≡ true)
 
 abbrev pub Stops : List ℕ → Bool → ℕ → Progress → Type 0
 Stops w ended len r = Stopped (r .state) w ended len r

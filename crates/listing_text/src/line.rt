@@ -1,8 +1,8 @@
 // The lines of a listing, put into a lent buffer. Each answers the place behind the line.
 ghost use mathlib.Core.Path.{_≡_};
 ghost use Rattle.wire.specs.Buffer.{holds};
-ghost use Rattle.captures.specs.Text.{puts};
-ghost use Rattle.captures.specs.Listing.{frameLine, cutLine, refusedLine, closingLine};
+ghost use Rattle.listing_text.specs.Text.{puts};
+ghost use Rattle.listing_text.specs.Listing.{frameLine, cutLine, refusedLine, closingLine};
 use crate::text::put_decimal;
 use crate::text::put_hex;
 use crate::text::put_word;

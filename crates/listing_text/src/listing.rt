@@ -4,16 +4,24 @@ ghost use Prim.Native.Nat.{_+_, _≤_};
 ghost use lib.Dec.{leb};
 ghost use lib.ListN.{length, drop};
 ghost use Rattle.wire.specs.Buffer.{holds};
-ghost use Rattle.captures.specs.Text.{puts};
-ghost use Rattle.captures.specs.Listing.{framed, cut, refused, following, closingLine};
-ghost use Rattle.captures.specs.Steps.{goesOn, greatest, tooLong, begun, halted, Steps, Lists, Stops};
-ghost use Rattle.captures.specs.declared.listing.State.the-variants.{Done};
+ghost use Rattle.protocol.specs.Fields.{Fields};
+ghost use Rattle.protocol.specs.declared.place.Place.{Place};
+ghost use Rattle.captures.specs.Following.{framed, cut, refused, following};
+ghost use Rattle.listing_text.specs.Text.{puts};
+ghost use Rattle.listing_text.specs.Listing.{limit, closingLine};
+ghost use Rattle.listing_text.specs.Steps.{goesOn, greatest, tooLong, begun, halted, Steps, Lists, Stops};
+ghost use Rattle.listing_text.specs.declared.listing.State.the-variants.{Done};
 use crate::line::closing_line;
 use crate::line::cut_line;
 use crate::line::frame_line;
 use crate::line::refused_line;
-use crate::window::Next;
-use crate::window::next_frame;
+use captures::Next;
+use captures::next_frame;
+
+// The frame limit of a listing, and the bytes of the longest frame within it.
+const LIMIT: u32 = 65532;
+
+pub const LONGEST: usize = 65536;
 
 // The longest that one step prints is below this many bytes.
 const ROOM: usize = 128;
@@ -92,16 +100,13 @@ pub fn goes_on(state: State) -> bool
 // Prints what comes next.
 fn step(window: &[u8], ended: bool, p: Progress, out: &mut [u8]) -> Progress
     requires { ⌜ p .from ≤ length (now window) ⌝ }
-    ensures { λ r. ⌜ Steps (following (drop (p .from) (now (window .entry))) ended) p (now (out .entry)) (now (out .exit)) r ⌝ }
+    ensures { λ r. ⌜ Steps (following (drop (p .from) (now (window .entry))) ended limit) p (now (out .entry)) (now (out .exit)) r ⌝ }
 {
     let from = p.from;
     let at = p.written;
-    match next_frame(&window[from..], ended) {
-        Next::Frame {
-            total,
-            key,
-            version,
-        } => frame_step(p, out, total, key, version),
+    let mut slots = [0u64; 24];
+    match next_frame(&window[from..], ended, LIMIT, &mut slots) {
+        Next::Frame { length } => frame_step(p, out, length, slots[0] as u16, slots[1] as u16),
         Next::Whole => closed(p, out, at, b" whole\n"),
         Next::Cut { left, needed } => cut_step(p, out, left, needed),
         Next::Refused { number } => refused_step(p, out, number),
@@ -111,7 +116,7 @@ fn step(window: &[u8], ended: bool, p: Progress, out: &mut [u8]) -> Progress
 
 fn frame_step(p: Progress, out: &mut [u8], total: u64, key: u16, version: u16) -> Progress
     requires { ⌜ p .from + total ≤ greatest ⌝ }
-    ensures { λ r. ⌜ Steps (framed total key version) p (now (out .entry)) (now (out .exit)) r ⌝ }
+    ensures { λ r. ⌜ ((f : Fields Place) → f .key ≡ key → f .version ≡ version → Steps (framed f total) p (now (out .entry)) (now (out .exit)) r) ⌝ }
 {
     let from = p.from;
     let offset = p.offset;

@@ -1,7 +1,7 @@
 // Words and numbers put into a lent buffer, in ASCII.
 ghost use mathlib.Core.Path.{_≡_};
 ghost use Rattle.wire.specs.Buffer.{holds, put};
-ghost use Rattle.captures.specs.Text.{decimal, hex};
+ghost use Rattle.listing_text.specs.Text.{decimal, hex};
 
 // Puts a word at a place of out, and answers the place behind it, as wire::put_bytes does.
 pub fn put_word(out: &mut [u8], at: usize, word: &[u8]) -> usize

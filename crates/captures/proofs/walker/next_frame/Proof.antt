@@ -35,9 +35,11 @@ next-frame-spec =
     let frame = size .before .before in
     let read = frame .before .before in
     let known = read .before .before .before in
-    let bytes : Bytes (now (known .before .args .rest)) = λ i. omega (arith, known .shared-slice-known .given i) in
-    (frame-left _ _ _ (read .before .before .if1 .left) _ (sym (frame .enum-told .given .1) ∙ read .read .ensures .0)
-    (λ l. number-read 4 0xffff_ffff refl _ 0 _ _ _ bytes (omega (arith, l)) (size .before .within .ensures) (size .u32-field .ensures)), read .read .ensures .1 .0))
+    let bytes : Bytes (now (known .before .args .rest)) = λ i. omega (arith, known .shared-slice-known .given i) in (
+      frame-left _ _ _ (read .before .before .if1 .left) _ (sym (frame .enum-told .given .1) ∙ read .read .ensures .0)
+          (λ l. number-read 4 0xffff_ffff refl _ 0 _ _ _ bytes (omega (arith, l)) (size .before .within .ensures) (size .u32-field .ensures)),
+      read .read .ensures .1 .0,
+    ))
     (λ c.
     let short = c .before .before in
     let read = short .before .before in

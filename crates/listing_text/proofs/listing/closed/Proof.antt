@@ -1,8 +1,8 @@
 -- The line, and the place behind it.
-use Rattle.captures.proofs.Listings.{halted-at}
+use Rattle.listing_text.proofs.Listings.{halted-at}
 use borrow.Author.Needs.{needs}
-use Rattle.captures.proofs.listing.closed.Statement.{statement}
-use Rattle.captures.proofs.listing.closed.Tie as tie
+use Rattle.listing_text.proofs.listing.closed.Statement.{statement}
+use Rattle.listing_text.proofs.listing.closed.Tie as tie
 
 pub closed-spec : {M : Type 1} → statement M
 closed-spec =

@@ -1,8 +1,8 @@
 -- Two lines, one behind the other.
-use Rattle.captures.proofs.Texts.{pieces}
+use Rattle.listing_text.proofs.Texts.{pieces}
 use borrow.Author.Needs.{needs}
-use Rattle.captures.proofs.listing.cut_step.Statement.{statement}
-use Rattle.captures.proofs.listing.cut_step.Tie as tie
+use Rattle.listing_text.proofs.listing.cut_step.Statement.{statement}
+use Rattle.listing_text.proofs.listing.cut_step.Tie as tie
 
 pub cut-step-spec : {M : Type 1} → statement M
 cut-step-spec =

@@ -1,8 +1,8 @@
 -- By the two tests.
 use mathlib.Core.Path.{refl}
-use Rattle.captures.proofs.Listings.{room-none, room-some}
-use Rattle.captures.proofs.listing.has_room.Statement.{statement}
-use Rattle.captures.proofs.listing.has_room.Tie as tie
+use Rattle.listing_text.proofs.Listings.{room-none, room-some}
+use Rattle.listing_text.proofs.listing.has_room.Statement.{statement}
+use Rattle.listing_text.proofs.listing.has_room.Tie as tie
 
 pub has-room-spec : {M : Type 1} → statement M
 has-room-spec =

@@ -2,13 +2,13 @@
 use Prim.Native.Nat.{_-_}
 use lib.ListN.{length}
 use borrow.Author.Tests.{not-true, not-false}
-use Rattle.captures.specs.Steps.{Lists}
-use Rattle.captures.specs.declared.listing.State.the-variants.{Going}
-use Rattle.captures.proofs.Listings.{step-lists, step-goes, step-less, step-stops, lists-length, lists-start, lists-from, lists-more, lists-room, lists-full}
+use Rattle.listing_text.specs.Steps.{Lists}
+use Rattle.listing_text.specs.declared.listing.State.the-variants.{Going}
+use Rattle.listing_text.proofs.Listings.{step-lists, step-goes, step-less, step-stops, lists-length, lists-start, lists-from, lists-more, lists-room, lists-full}
 use mathlib.Core.Path.{_≡_, refl, sym, _∙_}
 use borrow.Author.Needs.{needs}
-use Rattle.captures.proofs.listing.list.Statement.{statement}
-use Rattle.captures.proofs.listing.list.Tie as tie
+use Rattle.listing_text.proofs.listing.list.Statement.{statement}
+use Rattle.listing_text.proofs.listing.list.Tie as tie
 
 abbrev Inv-loop : tie.InvT-loop
 Inv-loop window ended offset frames out₀ p₀ out p = Lists window ended p₀ out₀ out p × (p .state ≡ Going)

@@ -1,9 +1,9 @@
 -- By the two tests.
 use mathlib.Core.Path.{refl}
-use Rattle.captures.proofs.Listings.{offset-long, frames-long}
+use Rattle.listing_text.proofs.Listings.{offset-long, frames-long}
 use borrow.Author.Needs.{needs}
-use Rattle.captures.proofs.listing.too_long.Statement.{statement}
-use Rattle.captures.proofs.listing.too_long.Tie as tie
+use Rattle.listing_text.proofs.listing.too_long.Statement.{statement}
+use Rattle.listing_text.proofs.listing.too_long.Tie as tie
 
 pub too-long-spec : {M : Type 1} → statement M
 too-long-spec =
