@@ -146,6 +146,14 @@ window-tells [] rest false limit r = inl refl
 window-tells (b ∷ s) rest false limit r =
     stays (b ∷ s) rest limit (λ z. absurd (omega (arith, z))) (λ z. absurd (omega (arith, z, length-append (b ∷ s) rest))) (readFrame (b ∷ s) limit) refl (answer-stays (b ∷ s) rest limit)
 
+-- So what is known of a part is known of the capture.
+pub window-known : (w rest : List ℕ) (ended : Bool) (limit : ℕ) (n : Next) → Rest ended rest → following w ended limit ≡ n → (n ≡ more → ⊥) → following (w ++ rest) true limit ≡ n
+window-known w rest ended limit n r e d = by (window-tells w rest ended limit r)
+  where
+    by : (following w ended limit ≡ more) ⊎ (following (w ++ rest) true limit ≡ following w ended limit) → following (w ++ rest) true limit ≡ n
+    by (inl x) = absurd (d (sym e ∙ x))
+    by (inr y) = y ∙ e
+
 -- ---- Where more bytes are needed
 
 -- What is short of a frame is shorter than the longest one: Size is looked at before the frame's end.

@@ -6,7 +6,7 @@ use mathlib.Core.List.{List, [], _∷_, _++_}
 use Prim.Native.Nat.{ℕ, _+_, _-_, _≤_, _<_, min}
 use native.Mathlib.Omega.{arith}
 use lib.Dec.{leb, eqb}
-use lib.IntN.{ℤ, pos, negsuc}
+use lib.IntN.{ℤ, pos}
 use lib.ListN.{length, getD, set, take, drop, length-append, length-drop, length-take}
 use lib.Seq.{slice, length-slice, length-take-le, take-add, take-at, take-all, take-length, drop-at, drop-drop, drop-append-le}
 use borrow.Author.Tests.{leb-true, leb-false, eq-eqb, ne-eqb}

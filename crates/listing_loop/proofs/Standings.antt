@@ -8,7 +8,7 @@ use Prim.Native.Nat.{ℕ, _+_, _≤_, _<_}
 use native.Mathlib.Omega.{arith}
 use lib.IntN.{ℤ, pos, negsuc}
 use lib.ListN.{length, take, drop}
-use lib.Seq.{length-take-le, drop-append-le}
+use lib.Seq.{length-take-le}
 use Rattle.captures.specs.Following.{Next, more, refused, Rest}
 use Rattle.captures.proofs.Followings.{more-is-short, more-may-come}
 use Rattle.input_window.specs.Reads.{inOrder}
@@ -18,7 +18,7 @@ use Rattle.input_window.specs.declared.input.Input.{Input}
 use Rattle.input_window.proofs.Windows.{ends-by-nothing}
 use Rattle.listing_text.specs.Listing.{limit, linesOf, listing}
 use Rattle.listing_text.proofs.Lines.{closes-at}
-use Rattle.listing_loop.specs.History.{History, nothingYet, capture, handed, ended, gave, afterRead, afterWrite}
+use Rattle.listing_loop.specs.History.{History, nothingYet, capture, handed, ended, afterRead, afterWrite}
 use Rattle.listing_loop.specs.Stages.{isFailed, stageRead, stageWritten}
 use Rattle.listing_loop.specs.Standing.{Begins, Because, next, Stands}
 use Rattle.listing_loop.specs.declared.session.Session.{Session}

@@ -2,15 +2,14 @@
 -- after another are one listing. Assumes nothing.
 use mathlib.Core.Path.{_≡_, refl, sym, _∙_, ap, subst}
 use mathlib.Core.Bool.{Bool, true, false, cond}
-use mathlib.Core.List.{List, [], _++_, append-assoc, append-nil}
-use mathlib.Core.Logic.{_⊎_, inl, inr}
+use mathlib.Core.List.{List, [], _∷_, _++_, append-assoc, append-nil}
 use Prim.Native.Nat.{ℕ, suc, _+_, _-_, _<_, _≤_}
 use native.Mathlib.Numerals.{add-one}
 use native.Mathlib.Omega.{arith}
-use lib.Dec.{ltb, leb, eqb}
+use lib.Dec.{ltb, eqb}
 use lib.ListN.{length, take, drop, length-append, length-drop}
 use lib.Seq.{take-all, drop-append-le, drop-drop, getD-drop}
-use borrow.Author.Tests.{lt-ltb, le-ltb, ltb-false, le-leb, lt-leb, leb-true, leb-false, eqb-true, eqb-false}
+use borrow.Author.Tests.{lt-ltb, le-ltb, ltb-false, eqb-true, eqb-false}
 use Rattle.wire.specs.Buffer.{Holds, holds, splice}
 use Rattle.wire.specs.Integers.{Bytes}
 use Rattle.wire.proofs.Splice.{splice-none, splice-splice, length-splice}
@@ -22,78 +21,39 @@ use Rattle.captures.specs.Following.{Next, framed, whole, cut, refused, more, f
 use Rattle.captures.specs.Answer.{told}
 use Rattle.captures.specs.declared.walker.Next.{Next as Answer}
 use Rattle.captures.specs.declared.walker.Next.the-variants.{Frame}
-use Rattle.captures.proofs.Followings.{Tells, tells, framed-there, KeySlots, key-slots, window-tells}
-use Rattle.listing_text.specs.Text.{ascii, decimal, joined, puts}
+use Rattle.captures.proofs.Followings.{Tells, tells, framed-there, KeySlots, key-slots, window-known}
+use Rattle.listing_text.specs.Text.{ascii, joined, puts}
 use Rattle.listing_text.specs.Listing.{limit, closes, frameLine, cutLine, refusedLine, closingLine, linesFrom, linesOf}
-use Rattle.listing_text.specs.Steps.{goesOn, greatest, tooLong, begun, halted, advanced, printed, moved, Steps, behind, Lists, Stopped, Stops}
+use Rattle.listing_text.specs.Steps.{greatest, tooLong, begun, halted, advanced, printed, moved, Steps, behind, Lists, Stopped, Stops}
 use Rattle.listing_text.specs.declared.listing.Progress.{Progress}
 use Rattle.listing_text.specs.declared.listing.State.{State}
 use Rattle.listing_text.specs.declared.listing.State.the-variants.{Going, More, Done, TooLong}
-use Rattle.listing_text.proofs.Texts.{joined-append, puts-fit, decimal-most, hex-length, piece-most, no-piece-most}
+use Rattle.listing_text.proofs.Texts.{joined-append, puts-fit, decimal-most, hex-length, joined-most}
 use Rattle.listing_text.proofs.Lines.{lines-unfold}
 
--- No step prints more than 128 bytes.
-closing-most : (k : ℕ) (ending : List ℕ) → length ending ≤ 9 → length (joined (closingLine k ending)) ≤ 36
-closing-most k ending h =
-    piece-most (ascii "frames ") _ 7 29 (omega arith) (piece-most (decimal k) _ 20 9 (decimal-most k) (piece-most ending _ 9 0 h no-piece-most))
-
-both-most : (ps qs : List (List ℕ)) (m n : ℕ) → length (joined ps) ≤ m → length (joined qs) ≤ n → length (joined (ps ++ qs)) ≤ m + n
-both-most ps qs m n h k = rw (joined-append ps qs, length-append (joined ps) (joined qs)) (omega (arith, h, k))
-
+-- No step prints more than 128 bytes: a number has at most 20 digits.
 printed-most : (n : Next) (p : Progress) → length (joined (printed n p)) ≤ 128
 printed-most (framed f total) p = by (tooLong (p .offset) (p .frames) total)
   where
-    line : length (joined (frameLine (p .offset) total (f .key) (f .version))) ≤ 68
-    line =
-        piece-most (decimal (p .offset)) _ 20 48 (decimal-most _)
-        (piece-most (ascii " ") _ 1 47 (omega arith)
-        (piece-most (decimal total) _ 20 27 (decimal-most _)
-        (piece-most (ascii " ") _ 1 26 (omega arith)
-        (piece-most _ _ 4 22 (let e = hex-length (f .key) in omega (arith, e))
-        (piece-most (ascii " ") _ 1 21 (omega arith)
-        (piece-most (decimal (f .version)) _ 20 1 (decimal-most _)
-        (piece-most (ascii "\n") _ 1 0 (omega arith) no-piece-most)))))))
-
     by : (t : Bool) → length (joined (cond t [] (frameLine (p .offset) total (f .key) (f .version)))) ≤ 128
-    by true = let h = no-piece-most in omega (arith, h)
-    by false = omega (arith, line)
-printed-most whole p = let h = closing-most (p .frames) (ascii " whole\n") (omega arith) in omega (arith, h)
-printed-most (cut left needed) p =
-    let h = both-most (cutLine (p .offset) left needed) (closingLine (p .frames) (ascii " cut\n")) 70 36 line (closing-most (p .frames) (ascii " cut\n") (omega arith)) in
-    omega (arith, h)
-  where
-    line : length (joined (cutLine (p .offset) left needed)) ≤ 70
-    line =
-        piece-most (decimal (p .offset)) _ 20 50 (decimal-most _)
-        (piece-most (ascii " CUT ") _ 5 45 (omega arith)
-        (piece-most (decimal left) _ 20 25 (decimal-most _)
-        (piece-most (ascii " of ") _ 4 21 (omega arith)
-        (piece-most (decimal needed) _ 20 1 (decimal-most _)
-        (piece-most (ascii "\n") _ 1 0 (omega arith) no-piece-most)))))
-printed-most (refused number) p =
-    let h = both-most (refusedLine (p .offset) number) (closingLine (p .frames) (ascii " refused\n")) 50 36 line (closing-most (p .frames) (ascii " refused\n") (omega arith)) in
-    omega (arith, h)
-  where
-    line : length (joined (refusedLine (p .offset) number)) ≤ 50
-    line =
-        piece-most (decimal (p .offset)) _ 20 30 (decimal-most _)
-        (piece-most (ascii " REFUSED ") _ 9 21 (omega arith)
-        (piece-most (decimal number) _ 20 1 (decimal-most _)
-        (piece-most (ascii "\n") _ 1 0 (omega arith) no-piece-most)))
-printed-most more p = let h = no-piece-most in omega (arith, h)
+    by true = let h = joined-most [] [] tt in omega (arith, h)
+    by false = let k = hex-length (f .key) in let h = joined-most (frameLine (p .offset) total (f .key) (f .version)) (20 ∷ 1 ∷ 20 ∷ 1 ∷ 4 ∷ 1 ∷ 20 ∷ 1 ∷ []) (decimal-most _, (omega arith, (decimal-most _, (omega arith, (omega (arith, k), (omega arith, (decimal-most _, (omega arith, tt)))))))) in omega (arith, h)
+printed-most whole p = let h = joined-most (printed whole p) (7 ∷ 20 ∷ 7 ∷ []) (omega arith, (decimal-most _, (omega arith, tt))) in omega (arith, h)
+printed-most (cut left needed) p = let h = joined-most (printed (cut left needed) p) (20 ∷ 5 ∷ 20 ∷ 4 ∷ 20 ∷ 1 ∷ 7 ∷ 20 ∷ 5 ∷ []) (decimal-most _, (omega arith, (decimal-most _, (omega arith, (decimal-most _, (omega arith, (omega arith, (decimal-most _, (omega arith, tt))))))))) in omega (arith, h)
+printed-most (refused number) p = let h = joined-most (printed (refused number) p) (20 ∷ 9 ∷ 20 ∷ 1 ∷ 7 ∷ 20 ∷ 9 ∷ []) (decimal-most _, (omega arith, (decimal-most _, (omega arith, (omega arith, (decimal-most _, (omega arith, tt))))))) in omega (arith, h)
+printed-most more p = let h = joined-most [] [] tt in omega (arith, h)
 
--- What the window tells holds of the capture.
-known : (w rest : List ℕ) (ended : Bool) (n : Next) → Rest ended rest → following w ended limit ≡ n → (n ≡ more → ⊥) → following (w ++ rest) true limit ≡ n
-known w rest ended n r e d = by (window-tells w rest ended limit r)
-  where
-    by : (following w ended limit ≡ more) ⊎ (following (w ++ rest) true limit ≡ following w ended limit) → following (w ++ rest) true limit ≡ n
-    by (inl x) = absurd (d (sym e ∙ x))
-    by (inr y) = y ∙ e
+-- What is known after a step by its state: the listing has gone on, or why it has not.
+abbrev Went : Progress → List ℕ → Bool → State → Progress → Type 0
+Went p w ended Going r = p .from < r .from
+Went p w ended More r = Stopped More w ended 0 r
+Went p w ended Done r = Stopped Done w ended 0 r
+Went p w ended TooLong r = Stopped TooLong w ended 0 r
 
 module _ (w : List ℕ) (ended : Bool) (p : Progress) (inside : p .from ≤ length w) where
   lines-next : (n : Next) → following (drop (p .from) w) ended limit ≡ n → (n ≡ more → ⊥) → (rest : List ℕ) → Rest ended rest → linesOf (drop (p .from) (w ++ rest)) (p .offset) (p .frames) ≡ linesFrom n (p .offset) (p .frames) (λ t. linesOf (drop t (drop (p .from) (w ++ rest))) (p .offset + t) (suc (p .frames)))
   lines-next n e d rest r =
-      let f : following (drop (p .from) (w ++ rest)) true limit ≡ n = rw (drop-append-le (p .from) w rest inside) (known (drop (p .from) w) rest ended n r e d) in
+      let f : following (drop (p .from) (w ++ rest)) true limit ≡ n = rw (drop-append-le (p .from) w rest inside) (window-known (drop (p .from) w) rest ended limit n r e d) in
       lines-unfold (drop (p .from) (w ++ rest)) (p .offset) (p .frames)
       ∙ ap (λ (x : Next). linesFrom x (p .offset) (p .frames) (λ t. linesOf (drop t (drop (p .from) (w ++ rest))) (p .offset + t) (suc (p .frames)))) f
 
@@ -141,44 +101,32 @@ module _ (w : List ℕ) (ended : Bool) (p : Progress) (inside : p .from ≤ leng
         let at : r .written ≡ p .written + length (joined (printed n p)) = ap (λ (x : Holds). x .next) h in
         record { text = joined (printed n p); put = ap (λ (x : Holds). x .bytes) h; written = at; room = rw at fits; within = l .0; place = l .1; lines = l .2 }
 
-    -- A step that can be followed by another has gone on.
-    pub step-goes : goesOn (r .state) ≡ true → (r .state ≡ Going) × (p .from < r .from)
-    step-goes g =
-        subst (λ (x : Progress). (x .state ≡ Going) × (p .from < x .from)) (sym (s .place))
-        (of n e (ap (λ (x : Progress). goesOn (x .state)) (sym (s .place)) ∙ g))
+    -- It has gone on, or says why not.
+    pub went : Went p w ended (r .state) r
+    went = subst (λ (x : Progress). Went p w ended (x .state) x) (sym (s .place)) (of n e)
       where
-        never : false ≡ true → (m : Progress) → (m .state ≡ Going) × (p .from < m .from)
-        never z m = absurd (let o : _≡_ {A = ℕ} 0 1 = cc in omega arith)
-
-        of : (n : Next) → following (drop (p .from) w) ended limit ≡ n → goesOn (moved n p (r .written) .state) ≡ true → (moved n p (r .written) .state ≡ Going) × (p .from < moved n p (r .written) .from)
-        of (framed f total) e g = by (tooLong (p .offset) (p .frames) total) g
+        of : (n : Next) → following (drop (p .from) w) ended limit ≡ n → Went p w ended (moved n p (r .written) .state) (moved n p (r .written))
+        of (framed f total) e = by (tooLong (p .offset) (p .frames) total) refl
           where
-            by : (t : Bool) → goesOn ((cond t (halted p (r .written) TooLong) (advanced p total (r .written))) .state) ≡ true → ((cond t (halted p (r .written) TooLong) (advanced p total (r .written))) .state ≡ Going) × (p .from < (cond t (halted p (r .written) TooLong) (advanced p total (r .written))) .from)
-            by true g = never g (halted p (r .written) TooLong)
-            by false g = (refl, let a = framed-there (drop (p .from) w) ended limit f total e in omega (arith, a .0))
-        of whole e g = never g (halted p (r .written) Done)
-        of (cut left needed) e g = never g (halted p (r .written) Done)
-        of (refused number) e g = never g (halted p (r .written) Done)
-        of more e g = never g (halted p (r .written) More)
+            by : (t : Bool) → tooLong (p .offset) (p .frames) total ≡ t → Went p w ended ((cond t (halted p (r .written) TooLong) (advanced p total (r .written))) .state) (cond t (halted p (r .written) TooLong) (advanced p total (r .written)))
+            by true q = (f, total, e, q)
+            by false q = let a = framed-there (drop (p .from) w) ended limit f total e in omega (arith, a .0)
+        of whole e = ap closes e
+        of (cut left needed) e = ap closes e
+        of (refused number) e = ap closes e
+        of more e = e
 
-    pub step-less : goesOn (r .state) ≡ true → r .from ≤ length w → length w - r .from < length w - p .from
-    step-less g l = let h = step-goes g in omega (arith, h .1, l)
+    pub went-on : r .state ≡ Going → p .from < r .from
+    went-on g = subst (λ (x : State). Went p w ended x r) g went
 
-    -- A step that can't be followed by another says why.
-    pub step-stops : (len : ℕ) → goesOn (r .state) ≡ false → Stops w ended len r
-    step-stops len g =
-        subst (Stops w ended len) (sym (s .place)) (of n e (ap (λ (x : Progress). goesOn (x .state)) (sym (s .place)) ∙ g))
+    pub stops : (len : ℕ) → (r .state ≡ Going → ⊥) → Stops w ended len r
+    stops len d = by (r .state) d went
       where
-        of : (n : Next) → following (drop (p .from) w) ended limit ≡ n → goesOn (moved n p (r .written) .state) ≡ false → Stops w ended len (moved n p (r .written))
-        of (framed f total) e g = by (tooLong (p .offset) (p .frames) total) refl g
-          where
-            by : (t : Bool) → tooLong (p .offset) (p .frames) total ≡ t → goesOn ((cond t (halted p (r .written) TooLong) (advanced p total (r .written))) .state) ≡ false → Stops w ended len (cond t (halted p (r .written) TooLong) (advanced p total (r .written)))
-            by true q g = (f, total, e, q)
-            by false q g = absurd (let o : _≡_ {A = ℕ} 0 1 = cc in omega arith)
-        of whole e g = ap closes e
-        of (cut left needed) e g = ap closes e
-        of (refused number) e g = ap closes e
-        of more e g = e
+        by : (x : State) → (x ≡ Going → ⊥) → Went p w ended x r → Stopped x w ended len r
+        by Going d g = absurd (d refl)
+        by More d g = g
+        by Done d g = g
+        by TooLong d g = g
 
 -- The same length.
 pub lists-length : (w : List ℕ) (ended : Bool) (p : Progress) (entry exit : List ℕ) (r : Progress) → Lists w ended p entry exit r → length exit ≡ length entry
@@ -212,26 +160,12 @@ lists-more w ended p q r a b c l g m =
           ∙ (ap (λ (s : List ℕ). l .text ++ s) (m .lines rest f) ∙ sym (append-assoc (l .text) (m .text) _)));
     }
 
-pub lists-room : (w : List ℕ) (ended : Bool) (p q : Progress) (a b : List ℕ) (room : Bool) → Lists w ended p a b q → room ≡ leb (q .written + 128) (length b) → room ≡ true → q .written + 128 ≤ length b
-lists-room w ended p q a b room l e f = leb-true _ _ (sym e ∙ f)
-
-pub lists-full : (w : List ℕ) (ended : Bool) (p q : Progress) (a b : List ℕ) (room : Bool) → Lists w ended p a b q → q .state ≡ Going → room ≡ leb (q .written + 128) (length b) → room ≡ false → Stops w ended (length a) q
-lists-full w ended p q a b room l g e f =
+pub lists-full : (w : List ℕ) (ended : Bool) (p q : Progress) (a b : List ℕ) → Lists w ended p a b q → q .state ≡ Going → length b < q .written + 128 → Stops w ended (length a) q
+lists-full w ended p q a b l g h =
     let k : length b ≡ length a = lists-length w ended p a b q l in
-    let h : length b < q .written + 128 = leb-false _ _ (sym e ∙ f) in
     subst (λ (s : State). Stopped s w ended (length a) q) (sym g) (omega (arith, k, h))
 
 -- The tests of the code.
-pub room-none : (written len : ℕ) → len < 128 → false ≡ leb (written + 128) len
-room-none written len h = sym (lt-leb (written + 128) len (omega (arith, h)))
-
-pub room-some : (written len : ℕ) (t : Bool) → 128 ≤ len → t ≡ leb written (len - 128) → t ≡ leb (written + 128) len
-room-some written len t h e = by (leb written (len - 128)) refl
-  where
-    by : (u : Bool) → leb written (len - 128) ≡ u → t ≡ leb (written + 128) len
-    by true q = let l = leb-true written (len - 128) q in e ∙ (q ∙ sym (le-leb (written + 128) len (omega (arith, l, h))))
-    by false q = let l = leb-false written (len - 128) q in e ∙ (q ∙ sym (lt-leb (written + 128) len (omega (arith, l, h))))
-
 pub offset-long : (offset frames total : ℕ) → greatest - offset < total → true ≡ tooLong offset frames total
 unfolding tooLong
 offset-long offset frames total h = rw (lt-ltb greatest (offset + total) (omega (arith, h)))

@@ -121,10 +121,18 @@ pub hex-length : (n : ℕ) → length (hex n) ≡ 4
 unfolding hex
 hex-length n = length-digits 16 4 n
 
-pub piece-most : (p : List ℕ) (ps : List (List ℕ)) (m n : ℕ) → length p ≤ m → length (joined ps) ≤ n → length (joined (p ∷ ps)) ≤ m + n
-unfolding joined
-piece-most p ps m n h k = rw (length-append p (joined ps)) (omega (arith, h, k))
+-- Pieces that have at most so many bytes each.
+abbrev pub Most : List (List ℕ) → List ℕ → Type 0
+Most [] ms = Unit
+Most (p ∷ ps) [] = ⊥
+Most (p ∷ ps) (m ∷ ms) = (length p ≤ m) × Most ps ms
 
-pub no-piece-most : length (joined []) ≤ 0
+abbrev pub sum : List ℕ → ℕ
+sum [] = 0
+sum (m ∷ ms) = m + sum ms
+
+pub joined-most : (ps : List (List ℕ)) (ms : List ℕ) → Most ps ms → length (joined ps) ≤ sum ms
 unfolding joined
-no-piece-most = omega arith
+joined-most [] ms h = omega arith
+joined-most (p ∷ ps) [] h = absurd h
+joined-most (p ∷ ps) (m ∷ ms) h = let l = joined-most ps ms (h .1) in rw (length-append p (joined ps)) (omega (arith, h .0, l))

@@ -1,6 +1,6 @@
 -- A listing in steps, through a window: each step prints what comes next (01 "The listing program").
 use mathlib.Core.Path.{_≡_}
-use mathlib.Core.Bool.{Bool, true, false, cond}
+use mathlib.Core.Bool.{Bool, true, cond}
 use mathlib.Core.List.{List, [], _++_}
 use Prim.Native.Nat.{ℕ, _+_, _≤_, _<_}
 use lib.Dec.{ltb}
@@ -14,12 +14,6 @@ use Rattle.listing_text.specs.Listing.{limit, closes, frameLine, cutLine
 use Rattle.listing_text.specs.declared.listing.Progress.{Progress}
 use Rattle.listing_text.specs.declared.listing.State.{State}
 use Rattle.listing_text.specs.declared.listing.State.the-variants.{Going, More, Done, TooLong}
-
-abbrev pub goesOn : State → Bool
-goesOn Going = true
-goesOn More = false
-goesOn Done = false
-goesOn TooLong = false
 
 -- The greatest offset and count of frames that is kept. No real capture gets there.
 abbrev pub greatest : ℕ

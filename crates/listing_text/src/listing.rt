@@ -1,15 +1,14 @@
 // A capture listed through a window, into a lent buffer.
 ghost use mathlib.Core.Path.{_≡_};
 ghost use Prim.Native.Nat.{_+_, _≤_};
-ghost use lib.Dec.{leb};
 ghost use lib.ListN.{length, drop};
 ghost use Rattle.wire.specs.Buffer.{holds};
 ghost use Rattle.protocol.specs.Fields.{Fields};
 ghost use Rattle.protocol.specs.declared.place.Place.{Place};
-ghost use Rattle.captures.specs.Following.{framed, cut, refused, following};
+ghost use Rattle.captures.specs.Following.{framed, following};
 ghost use Rattle.listing_text.specs.Text.{puts};
 ghost use Rattle.listing_text.specs.Listing.{limit, closingLine};
-ghost use Rattle.listing_text.specs.Steps.{goesOn, greatest, tooLong, begun, halted, Steps, Lists, Stops};
+ghost use Rattle.listing_text.specs.Steps.{greatest, tooLong, begun, halted, Steps, Lists, Stops};
 ghost use Rattle.listing_text.specs.declared.listing.State.the-variants.{Done};
 use crate::line::closing_line;
 use crate::line::cut_line;
@@ -55,12 +54,12 @@ pub fn list(window: &[u8], ended: bool, offset: u64, frames: u64, out: &mut [u8]
     ensures { λ r. ⌜ Stops (now (window .entry)) ended (length (now (out .entry))) r ⌝ }
 {
     let mut p = begin(offset, frames);
-    while has_room(p.written, out.len()) {
+    while p.written + ROOM <= out.len() {
         p = step(window, ended, p, out);
         let state = p.state;
-        if !goes_on(state) {
+        let State::Going = state else {
             return p;
-        }
+        };
     }
     p
 }
@@ -77,39 +76,26 @@ fn begin(offset: u64, frames: u64) -> Progress
     }
 }
 
-fn has_room(written: usize, len: usize) -> bool
-    ensures { λ r. ⌜ r ≡ leb (written + 128) len ⌝ }
-{
-    if len < ROOM {
-        return false;
-    }
-    written <= len - ROOM
-}
-
-pub fn goes_on(state: State) -> bool
-    ensures { λ r. ⌜ r ≡ goesOn state ⌝ }
-{
-    match state {
-        State::Going => true,
-        State::More => false,
-        State::Done => false,
-        State::TooLong => false,
-    }
-}
-
 // Prints what comes next.
 fn step(window: &[u8], ended: bool, p: Progress, out: &mut [u8]) -> Progress
     requires { ⌜ p .from ≤ length (now window) ⌝ }
     ensures { λ r. ⌜ Steps (following (drop (p .from) (now (window .entry))) ended limit) p (now (out .entry)) (now (out .exit)) r ⌝ }
 {
     let from = p.from;
+    let offset = p.offset;
     let at = p.written;
     let mut slots = [0u64; 24];
     match next_frame(&window[from..], ended, LIMIT, &mut slots) {
         Next::Frame { length } => frame_step(p, out, length, slots[0] as u16, slots[1] as u16),
         Next::Whole => closed(p, out, at, b" whole\n"),
-        Next::Cut { left, needed } => cut_step(p, out, left, needed),
-        Next::Refused { number } => refused_step(p, out, number),
+        Next::Cut { left, needed } => {
+            let behind = cut_line(out, at, offset, left, needed);
+            closed(p, out, behind, b" cut\n")
+        }
+        Next::Refused { number } => {
+            let behind = refused_line(out, at, offset, number);
+            closed(p, out, behind, b" refused\n")
+        }
         Next::More => halt(p, at, State::More),
     }
 }
@@ -142,24 +128,6 @@ fn too_long(offset: u64, frames: u64, total: u64) -> bool
         return true;
     }
     frames == u64::MAX
-}
-
-fn cut_step(p: Progress, out: &mut [u8], left: u64, needed: u64) -> Progress
-    ensures { λ r. ⌜ Steps (cut left needed) p (now (out .entry)) (now (out .exit)) r ⌝ }
-{
-    let at = p.written;
-    let offset = p.offset;
-    let behind = cut_line(out, at, offset, left, needed);
-    closed(p, out, behind, b" cut\n")
-}
-
-fn refused_step(p: Progress, out: &mut [u8], number: u8) -> Progress
-    ensures { λ r. ⌜ Steps (refused number) p (now (out .entry)) (now (out .exit)) r ⌝ }
-{
-    let at = p.written;
-    let offset = p.offset;
-    let behind = refused_line(out, at, offset, number);
-    closed(p, out, behind, b" refused\n")
 }
 
 // The closing line, at a place of out.

@@ -1,5 +1,4 @@
 -- There is room, or what is not taken yet is moved to the front.
-use mathlib.Core.Path.{refl}
 use native.Mathlib.Omega.{arith}
 use borrow.Author.Needs.{needs}
 use Rattle.input_window.proofs.Windows.{placed, placed-length, front-shows}

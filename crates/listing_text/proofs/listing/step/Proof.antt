@@ -9,6 +9,7 @@ use Rattle.captures.specs.Following.{following}
 use Rattle.captures.specs.declared.walker.Next.{Next}
 use Rattle.captures.proofs.Followings.{Tells}
 use Rattle.listing_text.specs.Listing.{limit}
+use Rattle.listing_text.proofs.Texts.{pieces}
 use Rattle.listing_text.proofs.Listings.{steps-more, FrameAt, next-is, frame-is}
 use Rattle.listing_text.proofs.listing.step.Statement.{statement}
 use Rattle.listing_text.proofs.listing.step.Tie as tie
@@ -51,11 +52,15 @@ step-spec =
     (λ c. search needs)
     (λ c κs. search needs)
     (λ c. search needs)
+    (λ c κs. search needs)
+    (λ c. search needs)
+    (λ c κs. search needs)
+    (λ c. search needs)
     (λ c. let at = frame (c .before .before .before .before .before) in rw (at .next) (c .before .before .frame-step .ensures (at .fields) (sym (at .keyed .key)) (sym (at .keyed .version))))
     (λ c. search needs)
     (λ c. let closed = c .before .before .closed in rw (next (c .before .before .before .before .before .before .before) _ (c .before .before .before .before .before .enum-told .given .1)) (record { text = closed .ensures .0; place = closed .ensures .1 }))
     (λ c. search needs)
-    (λ c. rw (next (c .before .before .before .before .before .before .before) _ (c .before .before .before .before .before .left .given .1)) (c .before .before .cut-step .ensures))
+    (λ c. let closed = c .before .before .closed2 in rw (next (c .before .before .before .before .before .before .before .before .before .before .before .before) _ (c .before .before .before .before .before .before .before .before .before .before .left .given .1)) (record { text = pieces _ _ _ _ _ _ _ (c .before .before .before .before .before .before .before .cut-line .ensures) (closed .ensures .0); place = closed .ensures .1 }))
     (λ c. search needs)
-    (λ c. rw (next (c .before .before .before .before .before .before .before) _ (c .before .before .before .before .before .number .given .1)) (c .before .before .refused-step .ensures))
+    (λ c. let closed = c .before .before .closed3 in rw (next (c .before .before .before .before .before .before .before .before .before .before .before .before) _ (c .before .before .before .before .before .before .before .before .before .before .number .given .1)) (record { text = pieces _ _ _ _ _ _ _ (c .before .before .before .before .before .before .before .refused-line .ensures) (closed .ensures .0); place = closed .ensures .1 }))
     (λ c. rw (next (c .before .before .before) _ (c .before .enum-told2 .given .1)) (steps-more _ _ _ (c .halt .ensures))))
