@@ -7,7 +7,7 @@ use mathlib.Core.Logic.{_⊎_, inl, inr}
 use Prim.Native.Nat.{ℕ, _+_, _^_, _<_, _≤_}
 use native.Mathlib.Omega.{arith}
 use lib.Dec.{ltb}
-use lib.ListN.{length, getD, length-append}
+use lib.ListN.{length, getD}
 use lib.Seq.{take-append-le}
 use borrow.Author.Tests.{ltb-true, ltb-false, ne-eqb}
 use Rattle.wire.specs.Integers.{Bytes, bigEndian}
@@ -126,25 +126,18 @@ size-stays s rest l =
     ap (λ (n : ℕ). n + 4)
     (sym (in-part 4 4 0 (s ++ rest) 0 (omega arith)) ∙ (ap (λ (u : List ℕ). bigEndian 4 u 0) (take-append-le 4 s rest l) ∙ in-part 4 4 0 s 0 (omega arith)))
 
-module _ (s rest : List ℕ) (limit : ℕ) (n : length s ≡ 0 → ⊥) (m : length (s ++ rest) ≡ 0 → ⊥) where
-  stays : (r : Reading) → r ≡ readFrame s limit → ((k : ℕ) × (readFrame s limit ≡ short k)) ⊎ (readFrame (s ++ rest) limit ≡ readFrame s limit) → (following s false limit ≡ more) ⊎ (following (s ++ rest) true limit ≡ following s false limit)
-  stays r e (inl x) = inl (sym (something-left s false limit n false (short (x .0)) (sym (x .1)) refl))
-  stays (frame f) e (inr y) =
-      let h : Head s (frame f) = subst (Head s) (sym e) (head s limit) in
-      let l : 4 ≤ length s = omega (arith, h .0, h .1) in
-      inr
-      (sym (something-left (s ++ rest) true limit m true (frame f) (e ∙ sym y) refl)
-      ∙ (ap (framed f) (size-stays s rest l) ∙ something-left s false limit n false (frame f) e refl))
-  stays (short k) e (inr y) = inl (sym (something-left s false limit n false (short k) e refl))
-  stays (refusal k p) e (inr y) =
-      inr (sym (something-left (s ++ rest) true limit m true (refusal k p) (e ∙ sym y) refl) ∙ something-left s false limit n false (refusal k p) e refl)
-
 pub window-tells : WindowTells
 unfolding following
 window-tells w rest true limit r = inr (rw (r, append-nil w) refl)
 window-tells [] rest false limit r = inl refl
-window-tells (b ∷ s) rest false limit r =
-    stays (b ∷ s) rest limit (λ z. absurd (omega (arith, z))) (λ z. absurd (omega (arith, z, length-append (b ∷ s) rest))) (readFrame (b ∷ s) limit) refl (answer-stays (b ∷ s) rest limit)
+window-tells (b ∷ s) rest false limit r = by (readFrame (b ∷ s) limit) refl (head (b ∷ s) limit) (answer-stays (b ∷ s) rest limit)
+  where
+    by : (x : Reading) → readFrame (b ∷ s) limit ≡ x → Head (b ∷ s) x → ((k : ℕ) × (readFrame (b ∷ s) limit ≡ short k)) ⊎ (readFrame (b ∷ (s ++ rest)) limit ≡ readFrame (b ∷ s) limit) → (nextOf x false (length (b ∷ s)) (frameLength (b ∷ s)) ≡ more) ⊎ (following (b ∷ (s ++ rest)) true limit ≡ nextOf x false (length (b ∷ s)) (frameLength (b ∷ s)))
+    by (short k) e h a = inl refl
+    by (frame f) e h (inl a) = absurd (let o : _≡_ {A = ℕ} 0 1 = cc (sym e ∙ a .1) in omega arith)
+    by (frame f) e h (inr a) = inr (rw (a ∙ e) (ap (framed f) (size-stays (b ∷ s) rest (omega (arith, h .0, h .1)))))
+    by (refusal k p) e h (inl a) = absurd (let o : _≡_ {A = ℕ} 0 1 = cc (sym e ∙ a .1) in omega arith)
+    by (refusal k p) e h (inr a) = inr (rw (a ∙ e))
 
 -- So what is known of a part is known of the capture.
 pub window-known : (w rest : List ℕ) (ended : Bool) (limit : ℕ) (n : Next) → Rest ended rest → following w ended limit ≡ n → (n ≡ more → ⊥) → following (w ++ rest) true limit ≡ n

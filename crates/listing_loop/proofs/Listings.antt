@@ -19,17 +19,11 @@ use Rattle.listing_text.specs.declared.listing.State.{State}
 use Rattle.listing_text.specs.declared.listing.State.the-variants.{Going, More, Done, TooLong as Long}
 use Rattle.listing_loop.specs.History.{History, capture, handed, ended}
 use Rattle.listing_loop.specs.Stages.{isListing, isFailed, stageListed}
-use Rattle.listing_loop.specs.Standing.{Begins, Because, Stands}
+use Rattle.listing_loop.specs.Standing.{Begins, Stands}
 use Rattle.listing_loop.specs.declared.session.Session.{Session}
 use Rattle.listing_loop.specs.declared.session.Stage.{Stage}
 use Rattle.listing_loop.specs.declared.session.Stage.the-variants.{Listing}
-
--- By the state in which the listing of the window stopped.
-begins-after : (x : State) (all made left : List ℕ) → all ≡ made ++ behind x left → Begins (stageListed x) all made left
-begins-after Going all made left e = e
-begins-after More all made left e = e
-begins-after Done all made left e = e ∙ append-nil made
-begins-after Long all made left e = e
+use Rattle.listing_loop.proofs.Standings.{Known}
 
 pub not-listing : (x : Stage) (y : State) → x ≡ stageListed y → isListing x ≡ false
 not-listing x y e = rw e (by y)
@@ -40,17 +34,13 @@ not-listing x y e = rw e (by y)
     by Done = refl
     by Long = refl
 
-not-failed : (x : State) → isFailed (stageListed x) ≡ false
-not-failed Going = refl
-not-failed More = refl
-not-failed Done = refl
-not-failed Long = refl
-
-because-after : (x : State) (w : List ℕ) (ended : Bool) (len : ℕ) (p : Progress) (n : Next) (length-text waiting : ℕ) → following (drop (p .from) w) ended limit ≡ n → length-text ≡ waiting + len → Stopped x w ended len p → Because (stageListed x) n length-text (waiting + p .written) (p .offset) (p .frames)
-because-after Going w ended len p n t waiting e l h = omega (arith, l, h)
-because-after More w ended len p n t waiting e l h = sym e ∙ h
-because-after Done w ended len p n t waiting e l h = ap closes (sym e) ∙ h
-because-after Long w ended len p n t waiting e l h = (h .0, h .1, sym e ∙ h .2, h .3)
+-- By the state in which the listing of the window stopped.
+module _ (R : List ℕ → Type 0) (all left : List ℕ → List ℕ) (made : List ℕ) (n : Next) (len : ℕ) (p : Progress) where
+  known-after : (x : State) (w : List ℕ) (ended : Bool) (room waiting : ℕ) (failed : Bool) → ((rest : List ℕ) → R rest → all rest ≡ made ++ behind x (left rest)) → following (drop (p .from) w) ended limit ≡ n → len ≡ waiting + room → Stopped x w ended room p → false ≡ failed → Known R all left made n len (p .offset) (p .frames) (stageListed x) (waiting + p .written) failed
+  known-after Going w ended room waiting failed b e l h f = (b, omega (arith, l, h), f)
+  known-after More w ended room waiting failed b e l h f = (b, sym e ∙ h, f)
+  known-after Done w ended room waiting failed b e l h f = (λ rest r. b rest r ∙ append-nil made, ap closes (sym e) ∙ h, f)
+  known-after Long w ended room waiting failed b e l h f = (b, (h .0, h .1, sym e ∙ h .2, h .3), f)
 
 -- The text that waits then: the text that waited, and the lines made.
 text-after : (text text' part lines : List ℕ) (waiting : ℕ) → waiting ≤ length text → text' ≡ take waiting text ++ (part ++ drop (length text - waiting) (drop waiting text)) → part ≡ splice (take (length text - waiting) (drop waiting text)) 0 lines → take (waiting + length lines) text' ≡ take waiting text ++ lines
@@ -115,14 +105,8 @@ module _ (h : History) (s : Session) (window text : List ℕ) (st : Stands h s w
     stands-then : (i : Input) (x : Stage) → Shows (h .reads) i window → i .offset ≡ s .input .offset + p .from → x ≡ stageListed (p .state) → Stops left (ended h) (length free) p → Stands h (record { input = i; frames = p .frames; waiting = s .waiting + p .written; stage = x }) window text'
     stands-then i x shows o z e =
         let at : i .offset ≡ p .offset = o ∙ sym further in
-        rw z
-        (record {
-          input = shows;
-          room = omega (arith, same, room-length, l .room);
-          fails = not-failed (p .state) ∙ (ap isFailed (sym listing-on) ∙ st .fails);
-          lines = λ rest r. rw at (begins-after (p .state) _ _ _ (lines-then rest r));
-          because = rw at (because-after (p .state) left (ended h) (length free) p (following (drop (p .offset) (capture h)) (ended h) limit) (length text') (s .waiting) (ap (λ (y : List ℕ). following y (ended h) limit) (rest-then (capture h))) (same ∙ room-length) e);
-        })
+        let k = known-after (Rest (ended h)) (λ rest. listing (capture h ++ rest)) (λ rest. linesOf (drop (p .offset) (capture h ++ rest)) (p .offset) (p .frames)) (handed h ++ take (s .waiting + p .written) text') (following (drop (p .offset) (capture h)) (ended h) limit) (length text') p (p .state) left (ended h) (length free) (s .waiting) (h .failed) lines-then (ap (λ (y : List ℕ). following y (ended h) limit) (rest-then (capture h))) (same ∙ room-length) e (ap isFailed (sym listing-on) ∙ st .fails) in
+        rw z (record { input = shows; room = omega (arith, same, room-length, l .room); fails = k .2; lines = λ rest r. rw at (k .0 rest r); because = rw at (k .1) })
 
   -- What is lent of the window, w, is what it shows, and what is listed of it is taken.
   pub listed-stands : (p : Progress) (part text' w : List ℕ) (i : Input) (x : Stage) → w ≡ left → text' ≡ take (s .waiting) text ++ (part ++ drop (length text - s .waiting) (drop (s .waiting) text)) → Lists w (s .input .ended) (record { from = 0; offset = s .input .offset; frames = s .frames; written = 0; state = Going }) free part p → Stops w (s .input .ended) (length free) p → (p .from ≤ length left → s .input .offset + p .from < 0x1_0000_0000_0000_0000 → Shows (h .reads) i window × (i .offset ≡ s .input .offset + p .from)) → p .offset < 0x1_0000_0000_0000_0000 → x ≡ stageListed (p .state) → Stands h (record { input = i; frames = p .frames; waiting = s .waiting + p .written; stage = x }) window text'

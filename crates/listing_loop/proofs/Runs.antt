@@ -3,7 +3,7 @@
 use mathlib.Core.Path.{_≡_, refl, sym, _∙_, ap, subst}
 use mathlib.Core.Bool.{Bool, true, false, cond}
 use mathlib.Core.List.{List, [], _∷_, _++_}
-use mathlib.Core.Logic.{inl, inr}
+use mathlib.Core.Logic.{_⊎_, inl, inr}
 use Prim.Native.Nat.{ℕ, _+_, _<_, _≤_}
 use native.Mathlib.Omega.{arith}
 use lib.IntN.{ℤ, pos, negsuc}
@@ -81,13 +81,11 @@ listing-stage Unwritable e = absurd (let o : _≡_ {A = ℕ} 0 1 = cc in omega a
 -- After a write the listing goes on, or it is over.
 over-stage : (taken : Bool) (x : Stage) → isListing (stageWritten taken x) ≡ false → isOver (stageWritten taken x) ≡ true
 over-stage false x e = refl
-over-stage true Listing e = absurd (let o : _≡_ {A = ℕ} 0 1 = cc in omega arith)
-over-stage true Full e = absurd (let o : _≡_ {A = ℕ} 0 1 = cc in omega arith)
-over-stage true Reading e = absurd (let o : _≡_ {A = ℕ} 0 1 = cc in omega arith)
-over-stage true Listed e = refl
-over-stage true TooLong e = refl
-over-stage true Unreadable e = refl
-over-stage true Unwritable e = refl
+over-stage true x e = by (isOver x) refl e
+  where
+    by : (t : Bool) → isOver x ≡ t → isListing (cond t x Listing) ≡ false → isOver (cond t x Listing) ≡ true
+    by true q e = q
+    by false q e = absurd (let o : _≡_ {A = ℕ} 0 1 = cc in omega arith)
 
 -- A write after which the listing goes on has text to write: no line had room.
 text-waits : (taken : Bool) (x : Stage) (n : Next) (len waiting offset frames : ℕ) → isListing (stageWritten taken x) ≡ true → isListing x ≡ false → (x ≡ Reading → ⊥) → 128 ≤ len → Because x n len waiting offset frames → 0 < waiting
@@ -103,6 +101,18 @@ text-waits true Unwritable n len waiting offset frames e f d l b = absurd (let o
 -- The next turn comes after a read.
 pub read-again : (made : ℕ) (s s' : Session) (window text : List ℕ) → Within made s window text → isListing (s .stage) ≡ true → s' ≡ s → Before (made + 1) s' window text
 read-again made s s' window text (h, st, d, e) l x = rw x (h, st, listing-stage (s .stage) l, subst (λ (b : Bool). cond b (made + 1) made ≤ moved h) l e)
+
+-- A run that stops.
+ran : (h : History) (s : Session) (window text : List ℕ) → Stands h s window text → ((isOver (s .stage) ≡ true) × (s .waiting ≡ 0)) ⊎ (greatest ≤ length (capture h) + length (handed h) + 1) → (s .stage ≡ Listed → s .waiting ≡ 0) → Ran s window text
+ran h s window text st stops z =
+    record {
+      history = h;
+      stands = st;
+      stops = stops;
+      begun = handed-so-far h s window text st;
+      whole = λ e. whole-listing h s window text st e (z e);
+      closed = λ e. listing-closed h s window text st e;
+    }
 
 module _ (made : ℕ) (s r : Session) (window text lines : List ℕ) (taken : Bool) (w : Within made s window text) (l : isListing (s .stage) ≡ false) (p : lines ≡ take (s .waiting) text) (f : (h : History) (window text : List ℕ) → lines ≡ take (s .waiting) text → Stands h s window text → Stands (afterWrite taken lines h) r window text) where
   after : History
@@ -125,27 +135,11 @@ module _ (made : ℕ) (s r : Session) (window text lines : List ℕ) (taken : Bo
 
   -- The run is over after a write.
   pub write-over : r .waiting ≡ 0 → r .stage ≡ stageWritten taken (s .stage) → isListing (r .stage) ≡ false → Ran r window text
-  write-over z y x =
-      record {
-        history = after;
-        stands = stands-after;
-        stops = inl (ap isOver y ∙ over-stage taken (s .stage) (ap isListing (sym y) ∙ x), z);
-        begun = handed-so-far after r window text stands-after;
-        whole = λ e. whole-listing after r window text stands-after e z;
-        closed = λ e. listing-closed after r window text stands-after e;
-      }
+  write-over z y x = ran after r window text stands-after (inl (ap isOver y ∙ over-stage taken (s .stage) (ap isListing (sym y) ∙ x), z)) (λ _. z)
 
 -- All turns are made.
 pub turns-over : (made : ℕ) (s : Session) (window text : List ℕ) → Before made s window text → greatest ≤ made → Ran s window text
-turns-over made s window text (h, st, x, e) l =
-    record {
-      history = h;
-      stands = st;
-      stops = inr (at-most (ended h) e);
-      begun = handed-so-far h s window text st;
-      whole = λ y. absurd (let o : _≡_ {A = ℕ} 0 1 = cc in omega arith);
-      closed = λ y. absurd (let o : _≡_ {A = ℕ} 0 1 = cc in omega arith);
-    }
+turns-over made s window text (h, st, x, e) l = ran h s window text st (inr (at-most (ended h) e)) (λ y. absurd (let o : _≡_ {A = ℕ} 0 1 = cc in omega arith))
   where
     at-most : (b : Bool) → made ≤ length (capture h) + length (handed h) + cond b 1 0 → greatest ≤ length (capture h) + length (handed h) + 1
     at-most true k = omega (arith, k, l)

@@ -44,36 +44,21 @@ begins-with TooLong all made left b = (left, b)
 begins-with Unreadable all made left b = (left, b)
 begins-with Unwritable all made left b = b
 
--- What a write leaves of a stage.
-begins-then : (taken : Bool) (x : Stage) (all made left : List ℕ) → Begins x all made left → Begins (stageWritten taken x) all made left
-begins-then false x all made left b = begins-with x all made left b
-begins-then true Listing all made left b = b
-begins-then true Full all made left b = b
-begins-then true Reading all made left b = b
-begins-then true Listed all made left b = b
-begins-then true TooLong all made left b = b
-begins-then true Unreadable all made left b = b
-begins-then true Unwritable all made left b = b
+-- What is known at a stage: the lines that are left, why it is there, and whether something failed.
+module _ (R : List ℕ → Type 0) (all left : List ℕ → List ℕ) (made : List ℕ) (n : Next) (len offset frames : ℕ) where
+  abbrev pub Known : Stage → ℕ → Bool → Type 0
+  Known x waiting failed = ((rest : List ℕ) → R rest → Begins x (all rest) made (left rest)) × Because x n len waiting offset frames × (isFailed x ≡ failed)
 
-because-then : (taken : Bool) (x : Stage) (n : Next) (len waiting offset frames : ℕ) → Because x n len waiting offset frames → Because (stageWritten taken x) n len 0 offset frames
-because-then false x n len waiting offset frames b = tt
-because-then true Listing n len waiting offset frames b = tt
-because-then true Full n len waiting offset frames b = tt
-because-then true Reading n len waiting offset frames b = tt
-because-then true Listed n len waiting offset frames b = b
-because-then true TooLong n len waiting offset frames b = b
-because-then true Unreadable n len waiting offset frames b = b
-because-then true Unwritable n len waiting offset frames b = tt
-
-fails-then : (taken : Bool) (x : Stage) → isFailed (stageWritten taken x) ≡ cond taken (isFailed x) true
-fails-then false x = refl
-fails-then true Listing = refl
-fails-then true Full = refl
-fails-then true Reading = refl
-fails-then true Listed = refl
-fails-then true TooLong = refl
-fails-then true Unreadable = refl
-fails-then true Unwritable = refl
+  -- What a write leaves of it.
+  known-then : (taken : Bool) (x : Stage) (waiting : ℕ) (failed : Bool) → Known x waiting failed → Known (stageWritten taken x) 0 (cond taken failed true)
+  known-then false x waiting failed k = (λ rest r. begins-with x _ _ _ (k .0 rest r), tt, refl)
+  known-then true Listing waiting failed k = (k .0, tt, k .2)
+  known-then true Full waiting failed k = (k .0, tt, k .2)
+  known-then true Reading waiting failed k = (k .0, tt, k .2)
+  known-then true Listed waiting failed k = k
+  known-then true TooLong waiting failed k = k
+  known-then true Unreadable waiting failed k = k
+  known-then true Unwritable waiting failed k = k
 
 none-left : (ended : Bool) → Rest ended []
 none-left true = refl
@@ -120,14 +105,8 @@ module _ (h : History) (s : Session) (window text : List ℕ) (st : Stands h s w
   pub write-stands : (taken : Bool) (lines : List ℕ) (x : Stage) → lines ≡ take (s .waiting) text → x ≡ stageWritten taken (s .stage) → Stands (afterWrite taken lines h) (record { input = s .input; frames = s .frames; waiting = 0; stage = x }) window text
   unfolding inOrder
   write-stands taken lines x e z =
-      rw z
-      (record {
-        input = st .input;
-        room = omega arith;
-        fails = fails-then taken (s .stage) ∙ ap (λ (f : Bool). cond taken f true) (st .fails);
-        lines = λ rest r. rw (append-nil, e) (begins-then taken (s .stage) _ _ _ (st .lines rest r));
-        because = because-then taken (s .stage) _ _ (s .waiting) _ _ (st .because);
-      })
+      let k = known-then (Rest (ended h)) (λ rest. listing (capture h ++ rest)) (λ rest. linesOf (drop (s .input .offset) (capture h ++ rest)) (s .input .offset) (s .frames)) (handed h ++ take (s .waiting) text) (next h s) (length text) (s .input .offset) (s .frames) taken (s .stage) (s .waiting) (h .failed) (st .lines, st .because, st .fails) in
+      rw z (record { input = st .input; room = omega arith; fails = k .2; lines = λ rest r. rw (append-nil, e) (k .0 rest r); because = k .1 })
 
   -- What was handed to the output is the start of the listing.
   pub handed-so-far : (rest : List ℕ) → Rest (ended h) rest → (left : List ℕ) × (listing (capture h ++ rest) ≡ handed h ++ left)

@@ -134,11 +134,8 @@ lists-length w ended p entry exit r l =
     let h : p .written + length (l .text) ≤ length entry = subst (λ (n : ℕ). n ≤ length entry) (l .written) (l .room) in
     rw (l .put) (length-splice entry (l .text) (p .written) h)
 
-pub lists-start : (w : List ℕ) (ended : Bool) (entry : List ℕ) (offset frames : ℕ) (q : Progress) → q ≡ begun offset frames → Lists w ended q entry entry q × (q .state ≡ Going)
-lists-start w ended entry offset frames q e = rw e (record { text = []; put = splice-none entry 0; written = refl; room = omega arith; within = omega arith; place = refl; lines = λ rest r. refl }, refl)
-
-pub lists-from : (w : List ℕ) (ended : Bool) (p q r : Progress) (a b : List ℕ) → q ≡ p → Lists w ended q a b r → Lists w ended p a b r
-lists-from w ended p q r a b e l = subst (λ (x : Progress). Lists w ended x a b r) e l
+pub lists-start : (w : List ℕ) (ended : Bool) (entry : List ℕ) (offset frames : ℕ) → Lists w ended (begun offset frames) entry entry (begun offset frames) × (begun offset frames .state ≡ Going)
+lists-start w ended entry offset frames = (record { text = []; put = splice-none entry 0; written = refl; room = omega arith; within = omega arith; place = refl; lines = λ rest r. refl }, refl)
 
 pub lists-more : (w : List ℕ) (ended : Bool) (p q r : Progress) (a b c : List ℕ) → Lists w ended p a b q → q .state ≡ Going → Lists w ended q b c r → Lists w ended p a c r
 lists-more w ended p q r a b c l g m =

@@ -69,15 +69,7 @@ hex-digits n k l f =
 pub put-whole : (o word : List ℕ) (at : ℕ) (h : Holds) → h ≡ copied o at word 0 (length word) → h ≡ put o at word
 put-whole o word at h f = f ∙ copied-there o at word 0 (length word) (omega arith) ∙ ap (put o at) (take-length word)
 
--- Pieces one behind another.
-pub piece : (o : List ℕ) (at : ℕ) (p : List ℕ) (ps : List (List ℕ)) (o₁ : List ℕ) (at₁ : ℕ) (h : Holds) → holds o₁ at₁ ≡ put o at p → h ≡ puts o₁ at₁ ps → h ≡ puts o at (p ∷ ps)
-unfolding puts
-piece o at p ps o₁ at₁ h e f = f ∙ ap (λ (x : Holds). puts (x .bytes) (x .next) ps) e
-
-pub no-piece : (o : List ℕ) (at : ℕ) → holds o at ≡ puts o at []
-unfolding puts
-no-piece o at = refl
-
+-- Pieces behind others.
 pub pieces : (o : List ℕ) (at : ℕ) (ps qs : List (List ℕ)) (o₁ : List ℕ) (at₁ : ℕ) (h : Holds) → holds o₁ at₁ ≡ puts o at ps → h ≡ puts o₁ at₁ qs → h ≡ puts o at (ps ++ qs)
 unfolding puts
 pieces o at [] qs o₁ at₁ h e f = f ∙ ap (λ (x : Holds). puts (x .bytes) (x .next) qs) e

@@ -53,7 +53,13 @@ pub fn list(window: &[u8], ended: bool, offset: u64, frames: u64, out: &mut [u8]
     ensures { λ r. ⌜ Lists (now (window .entry)) ended (begun offset frames) (now (out .entry)) (now (out .exit)) r ⌝ }
     ensures { λ r. ⌜ Stops (now (window .entry)) ended (length (now (out .entry))) r ⌝ }
 {
-    let mut p = begin(offset, frames);
+    let mut p = Progress {
+        from: 0,
+        offset: offset,
+        frames: frames,
+        written: 0,
+        state: State::Going,
+    };
     while p.written + ROOM <= out.len() {
         p = step(window, ended, p, out);
         let state = p.state;
@@ -62,18 +68,6 @@ pub fn list(window: &[u8], ended: bool, offset: u64, frames: u64, out: &mut [u8]
         };
     }
     p
-}
-
-fn begin(offset: u64, frames: u64) -> Progress
-    ensures { λ r. ⌜ r ≡ begun offset frames ⌝ }
-{
-    Progress {
-        from: 0,
-        offset: offset,
-        frames: frames,
-        written: 0,
-        state: State::Going,
-    }
 }
 
 // Prints what comes next.

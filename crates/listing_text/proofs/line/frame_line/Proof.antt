@@ -1,10 +1,11 @@
 -- Its pieces one behind another.
-use Rattle.listing_text.proofs.Texts.{piece, no-piece}
+use Rattle.listing_text.specs.Text.{puts}
 use borrow.Author.Needs.{needs}
 use Rattle.listing_text.proofs.line.frame_line.Statement.{statement}
 use Rattle.listing_text.proofs.line.frame_line.Tie as tie
 
 pub frame-line-spec : {M : Type 1} → statement M
+unfolding puts
 frame-line-spec =
     tie.close
     (tie.spec
@@ -21,13 +22,4 @@ frame-line-spec =
     (λ c. search needs)
     (λ c κs. search needs)
     (λ c. search needs)
-    (λ c.
-    piece _ _ _ _ _ _ _ (c .before .before .before .before .before .before .before .before .before .before .before .before .before .before .before .before .before .before .before .before .before .before .before .before .before .before .before .before .before .before .before .before .before .before .put-decimal .ensures)
-    (piece _ _ _ _ _ _ _ (c .before .before .before .before .before .before .before .before .before .before .before .before .before .before .before .before .before .before .before .before .before .before .before .before .before .before .before .before .before .put-word .ensures)
-    (piece _ _ _ _ _ _ _ (c .before .before .before .before .before .before .before .before .before .before .before .before .before .before .before .before .before .before .before .before .before .before .before .before .before .put-decimal2 .ensures)
-    (piece _ _ _ _ _ _ _ (c .before .before .before .before .before .before .before .before .before .before .before .before .before .before .before .before .before .before .before .before .put-word2 .ensures)
-    (piece _ _ _ _ _ _ _ (c .before .before .before .before .before .before .before .before .before .before .before .before .before .before .before .before .put-hex .ensures)
-    (piece _ _ _ _ _ _ _ (c .before .before .before .before .before .before .before .before .before .before .before .put-word3 .ensures)
-    (piece _ _ _ _ _ _ _ (c .before .before .before .before .before .before .before .put-decimal3 .ensures)
-    (piece _ _ _ _ _ _ _ (c .before .before .put-word4 .ensures)
-    (no-piece _ _))))))))))
+    (λ c. let eight = c .before .before in let seven = eight .before .before .before .before .before in let six = seven .before .before .before .before in let five = six .before .before .before .before .before in let four = five .before .before .before .before in let three = four .before .before .before .before .before in let two = three .before .before .before .before in let one = two .before .before .before .before .before in rw (← one .put-decimal .ensures, ← two .put-word .ensures, ← three .put-decimal2 .ensures, ← four .put-word2 .ensures, ← five .put-hex .ensures, ← six .put-word3 .ensures, ← seven .put-decimal3 .ensures, ← eight .put-word4 .ensures)))
