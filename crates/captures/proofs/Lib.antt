@@ -1,5 +1,2 @@
--- Why the listing's code does what its definitions say.
-pub mod Texts
+-- Why what comes next is told by a window.
 pub mod Followings
-pub mod Listings
-pub mod Fronts

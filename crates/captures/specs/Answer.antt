@@ -1,11 +1,11 @@
--- The code's answer as the definition's.
-use Rattle.captures.specs.Listing as L
-use Rattle.captures.specs.declared.window.Next.{Next}
-use Rattle.captures.specs.declared.window.Next.the-variants.{Frame, Whole, Cut, Refused, More}
+-- What the code tells of what comes next: of a frame its length. Its fields are in the slots.
+use Rattle.captures.specs.Following as following
+use Rattle.captures.specs.declared.walker.Next.{Next}
+use Rattle.captures.specs.declared.walker.Next.the-variants.{Frame, Whole, Cut, Refused, More}
 
-abbrev pub nextOf : Next → L.Next
-nextOf (Frame total key version) = L.framed total key version
-nextOf Whole = L.whole
-nextOf (Cut left needed) = L.cut left needed
-nextOf (Refused number) = L.refused number
-nextOf More = L.more
+abbrev pub told : following.Next → Next
+told (following.framed f size) = Frame size
+told following.whole = Whole
+told (following.cut left needed) = Cut left needed
+told (following.refused number) = Refused number
+told following.more = More

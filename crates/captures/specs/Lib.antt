@@ -1,5 +1,3 @@
--- The listing of a capture (01 "The listing program").
-pub mod Text
-pub mod Listing
+-- What comes next in a capture.
+pub mod Following
 pub mod Answer
-pub mod Steps

@@ -1,17 +1,5 @@
-// Captures: frames one after another, and their listing.
-mod front;
-mod line;
-mod listing;
-mod text;
-mod window;
+// Captures: frames one after another.
+mod walker;
 
-pub use front::to_front;
-pub use line::closing_line;
-pub use line::cut_line;
-pub use line::frame_line;
-pub use line::refused_line;
-pub use listing::Progress;
-pub use listing::State;
-pub use listing::list;
-pub use window::Next;
-pub use window::next_frame;
+pub use walker::Next;
+pub use walker::next_frame;

@@ -1,8 +1,9 @@
 -- The stages of a listing: what each one is, and how one follows another.
 use mathlib.Core.Bool.{Bool, true, false, cond}
-use lib.IntN.{ℤ, pos, negsuc}
-use Rattle.captures.specs.declared.listing.State.{State}
-use Rattle.captures.specs.declared.listing.State.the-variants.{Going, More, Done, TooLong as Long}
+use lib.IntN.{ℤ}
+use Rattle.listing_text.specs.declared.listing.State.{State}
+use Rattle.listing_text.specs.declared.listing.State.the-variants.{Going, More, Done, TooLong as Long}
+use Rattle.listing_loop.specs.History.{gave}
 use Rattle.listing_loop.specs.declared.session.Stage.{Stage}
 use Rattle.listing_loop.specs.declared.session.Stage.the-variants.{Listing, Full, Reading, Listed, TooLong, Unreadable, Unwritable}
 
@@ -45,8 +46,7 @@ stageListed Long = TooLong
 
 -- The stage after a read that answered so.
 abbrev pub stageRead : ℤ → Stage
-stageRead (pos n) = Listing
-stageRead (negsuc n) = Unreadable
+stageRead got = cond (gave got) Listing Unreadable
 
 -- The stage after a write that took its text, or failed: the listing goes on unless it is over.
 abbrev pub stageWritten : Bool → Stage → Stage

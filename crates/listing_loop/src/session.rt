@@ -7,16 +7,14 @@ ghost use lib.ListN.{length, take, drop};
 ghost use Rattle.listing_loop.specs.History.{History, nothingYet, afterRead, afterWrite};
 ghost use Rattle.listing_loop.specs.Run.{Ran};
 ghost use Rattle.listing_loop.specs.Stages.{isListing, isOver, stageListed, stageRead, stageWritten};
-ghost use Rattle.listing_loop.specs.Standing.{Fits, Stands};
+ghost use Rattle.listing_loop.specs.Standing.{Stands};
 ghost use Rattle.listing_loop.specs.declared.session.Stage.the-variants.{Listing, Reading};
-use captures::State;
-use captures::list;
-use captures::to_front;
+use input_window::Input;
 use libc::STDIN_FILENO;
 use libc::STDOUT_FILENO;
-
-// The bytes of the longest frame within the limit of a listing.
-const LONGEST: usize = 65536;
+use listing_text::LONGEST;
+use listing_text::State;
+use listing_text::list;
 
 // What a listing does next, or why it is over.
 pub enum Stage {
@@ -38,16 +36,12 @@ pub enum Stage {
 
 // Where a listing is.
 pub struct Session {
-    // The bytes of the window from a place up to another, which are not listed yet.
-    pub from: usize,
-    pub held: usize,
-    // Where the first of them stands in the capture, and the frames before it.
-    pub offset: u64,
+    // What was read and is not listed yet, and where it stands in the capture.
+    pub input: Input,
+    // The frames before that.
     pub frames: u64,
     // How many bytes at the start of the text are not written yet.
     pub waiting: usize,
-    // The input has ended.
-    pub ended: bool,
     pub stage: Stage,
 }
 
@@ -75,7 +69,8 @@ fn turns(window: &mut [u8], text: &mut [u8]) -> Session
         let stage = at.stage;
         if let Stage::Reading = stage {
             at = make_room(window, at);
-            let held = at.held;
+            let input = at.input;
+            let held = input.held;
             let got = libc::read(STDIN_FILENO, &mut window[held..]);
             at = received(window, at, got);
         }
@@ -97,45 +92,36 @@ fn started() -> Session
     ensures { λ r. ⌜ r .stage ≡ Listing ⌝ }
     ensures { λ r. ⌜ ((window text : List ℕ) → Stands nothingYet r window text) ⌝ }
 {
+    let input = input_window::start();
     Session {
-        from: 0,
-        held: 0,
-        offset: 0,
+        input: input,
         frames: 0,
         waiting: 0,
-        ended: false,
         stage: Stage::Listing,
     }
 }
 
 // Lists what the window holds, as far as the text has room for it.
 fn listed(window: &[u8], text: &mut [u8], at: Session) -> Session
-    requires { ⌜ Fits at (now window) (now text) ⌝ }
+    requires { ⌜ at .waiting ≤ length (now text) ⌝ }
     ensures { λ r. ⌜ isListing (r .stage) ≡ false ⌝ }
     ensures { λ r. ⌜ ((h : History) → at .stage ≡ Listing → Stands h at (now (window .entry)) (now (text .entry)) → Stands h r (now (window .entry)) (now (text .exit))) ⌝ }
 {
-    let from = at.from;
-    let held = at.held;
-    let waiting = at.waiting;
-    let ended = at.ended;
-    let offset = at.offset;
+    let input = at.input;
+    let ended = input.ended;
+    let offset = input.offset;
     let frames = at.frames;
-    let p = list(
-        &window[from..held],
-        ended,
-        offset,
-        frames,
-        &mut text[waiting..],
-    );
+    let waiting = at.waiting;
+    let rest = input_window::rest(window, input);
+    let p = list(rest, ended, offset, frames, &mut text[waiting..]);
+    let from = p.from;
     let state = p.state;
+    let input = input_window::taken(input, from);
     let stage = stage_listed(state);
     Session {
-        from: from + p.from,
-        held: held,
-        offset: p.offset,
+        input: input,
         frames: p.frames,
         waiting: waiting + p.written,
-        ended: ended,
         stage: stage,
     }
 }
@@ -152,61 +138,41 @@ fn stage_listed(state: State) -> Stage
 }
 
 // Where the longest frame has no room after what the window holds, what is not listed yet is moved to the front.
-fn make_room(window: &mut [u8], at: Session) -> Session
-    requires { ⌜ at .from ≤ at .held ⌝ }
-    requires { ⌜ at .held ≤ length (now window) ⌝ }
-    requires { ⌜ 65536 ≤ length (now window) ⌝ }
+fn make_room(window: &mut [u8], mut at: Session) -> Session
     ensures { λ r. ⌜ ((h : History) (text : List ℕ) → Stands h at (now (window .entry)) text → Stands h r (now (window .exit)) text) ⌝ }
     ensures { λ r. ⌜ r .stage ≡ at .stage ⌝ }
-    ensures { λ r. ⌜ (at .held < at .from + 65536 → r .held < length (now (window .exit))) ⌝ }
+    ensures { λ r. ⌜ ((h : History) (text : List ℕ) → at .stage ≡ Reading → Stands h at (now (window .entry)) text → 65536 ≤ length (now (window .entry)) → r .input .held < length (now (window .exit))) ⌝ }
 {
-    let from = at.from;
-    let held = at.held;
-    if LONGEST <= window.len() - held {
-        return at;
-    }
-    to_front(window, from, held);
-    let stage = at.stage;
+    let input = at.input;
+    let input = input_window::make_room(window, input, LONGEST);
+    at.input = input;
+    at
+}
+
+// After a read into the window from `held` on, by what it answered.
+fn received(window: &[u8], at: Session, got: isize) -> Session
+    requires { ⌜ at .input .held < length (now window) ⌝ }
+    ensures { λ r. ⌜ r .stage ≡ stageRead got ⌝ }
+    ensures { λ r. ⌜ ((h : History) (text : List ℕ) → at .stage ≡ Reading → Stands h at (now (window .entry)) text → Stands (afterRead got (drop (at .input .held) (now (window .entry))) h) r (now (window .entry)) text) ⌝ }
+{
+    let input = at.input;
+    let input = input_window::received(window, input, got);
+    let stage = stage_read(got);
     Session {
-        from: 0,
-        held: held - from,
-        offset: at.offset,
+        input: input,
         frames: at.frames,
         waiting: at.waiting,
-        ended: at.ended,
         stage: stage,
     }
 }
 
-// After a read into the window from `held` on, by what it answered. There has to be room: a read into none gives nothing,
-// which says nothing of the input's end.
-fn received(window: &[u8], at: Session, got: isize) -> Session
-    requires { ⌜ at .held < length (now window) ⌝ }
-    ensures { λ r. ⌜ r .stage ≡ stageRead got ⌝ }
-    ensures { λ r. ⌜ ((h : History) (text : List ℕ) → at .stage ≡ Reading → Stands h at (now (window .entry)) text → Stands (afterRead got (drop (at .held) (now (window .entry))) h) r (now (window .entry)) text) ⌝ }
+fn stage_read(got: isize) -> Stage
+    ensures { λ r. ⌜ r ≡ stageRead got ⌝ }
 {
     if got < 0 {
-        return Session {
-            from: at.from,
-            held: at.held,
-            offset: at.offset,
-            frames: at.frames,
-            waiting: at.waiting,
-            ended: at.ended,
-            stage: Stage::Unreadable,
-        };
+        return Stage::Unreadable;
     }
-    let held = at.held;
-    let n = io::count(got, &window[held..]);
-    Session {
-        from: at.from,
-        held: held + n,
-        offset: at.offset,
-        frames: at.frames,
-        waiting: at.waiting,
-        ended: n == 0,
-        stage: Stage::Listing,
-    }
+    Stage::Listing
 }
 
 // The text that waits.
@@ -224,15 +190,13 @@ fn wrote(lines: &[u8], at: Session, taken: bool) -> Session
     ensures { λ r. ⌜ r .stage ≡ stageWritten taken (at .stage) ⌝ }
     ensures { λ r. ⌜ ((h : History) (window text : List ℕ) → now (lines .entry) ≡ take (at .waiting) text → Stands h at window text → Stands (afterWrite taken (now (lines .entry)) h) r window text) ⌝ }
 {
+    let input = at.input;
     let before = at.stage;
     let stage = stage_written(taken, before);
     Session {
-        from: at.from,
-        held: at.held,
-        offset: at.offset,
+        input: input,
         frames: at.frames,
         waiting: 0,
-        ended: at.ended,
         stage: stage,
     }
 }

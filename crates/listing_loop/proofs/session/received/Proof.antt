@@ -1,10 +1,10 @@
--- By whether the read failed.
-use mathlib.Core.Path.{sym, ap}
+-- What the read gave is shown by the window.
+use mathlib.Core.Path.{_∙_, ap}
 use borrow.Author.Needs.{needs}
 use mir.Syntax.{w64}
-use Rattle.wire.proofs.Casts.{below, not-below}
+use mir.Facts.{toZ-ofZ}
 use Rattle.listing_loop.specs.Stages.{stageRead}
-use Rattle.listing_loop.proofs.Standings.{counted, unreadable-stands, read-stands}
+use Rattle.listing_loop.proofs.Standings.{read-stands}
 use Rattle.listing_loop.proofs.session.received.Statement.{statement}
 use Rattle.listing_loop.proofs.session.received.Tie as tie
 
@@ -12,16 +12,11 @@ pub received-spec : {M : Type 1} → statement M
 received-spec =
     tie.close
     (tie.spec
-    (λ c.
-    let got = c .before .before .args .got in
-    let is = below w64 got (c .before .before .fits .got) (c .if1 .taken) .is in
-    (sym (ap stageRead is), λ h text reading st. unreadable-stands h _ _ text st reading got _ _ is))
-    (λ c. search needs)
-    (λ c. search needs)
-    (λ c. search needs)
     (λ c κs. search needs)
-    (λ c. search needs)
+    (λ c κs. search needs)
     (λ c.
     let start = c .before .before .before .before in
-    let gave = not-below w64 (start .args .got) (start .fits .got) (c .before .before .if1 .left) in
-    (sym (ap stageRead (gave .is)), λ h text reading st. read-stands h _ _ text st reading _ _ _ (gave .is) (counted (start .args .window .now) (start .args .at .held) _ _ _ (c .count .ensures .1) (gave .same)))))
+    let received = c .before .received in
+    let same = toZ-ofZ {w = w64} (start .fits .got) in
+    let stage = c .stage-read .ensures ∙ ap stageRead same in
+    (stage, λ h text reading st. read-stands h _ _ text st reading (start .args .got) _ _ _ (rw same at (received .ensures .0 _ (st .input) (start .pre))) (received .ensures .1) stage)))

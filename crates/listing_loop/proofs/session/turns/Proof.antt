@@ -11,13 +11,12 @@ use mir.Syntax.{w64}
 use mir.Val.{toZ, ofZ}
 use borrow.Author.Needs.{needs}
 use borrow.Author.Tests.{not-true, not-false}
-use Rattle.captures.specs.Steps.{greatest}
+use Rattle.listing_text.specs.Steps.{greatest}
 use Rattle.listing_loop.specs.History.{nothingYet}
 use Rattle.listing_loop.specs.Standing.{Stands}
 use Rattle.listing_loop.specs.declared.session.Stage.{Stage}
 use Rattle.listing_loop.specs.declared.session.Stage.the-variants.{Reading}
 use Rattle.listing_loop.proofs.session.Stage.{the-type}
-use Rattle.listing_loop.proofs.Standings.{held-short}
 use Rattle.listing_loop.proofs.Runs.{Before, Within, nothing-read, read-then, read-again, write-again, write-over, turns-over}
 use Rattle.listing_loop.proofs.session.turns.Statement.{statement}
 use Rattle.listing_loop.proofs.session.turns.Tie as tie
@@ -36,8 +35,12 @@ listed-then c = let inv = c .before .before .before .before .loop .inv .0 in c .
 room-then : (c : tie.After-make-room Inv-loop μ-loop) → Stands (c .before .before .before .before .before .before .before .before .before .before .loop .inv .0 .0) (c .make-room .result) (c .make-room .last .0) (c .before .before .before .before .before .before .listed .last .1 .0)
 room-then c = c .make-room .ensures .0 _ _ (listed-then (c .before .before .before .before .before .before))
 
-room-left : (c : tie.After-make-room Inv-loop μ-loop) → c .make-room .result .held < length (c .make-room .last .0)
-room-left c = c .make-room .ensures .1 .1 (held-short _ _ _ _ (listed-then (c .before .before .before .before .before .before)) (c .before .before .enum-told .given .1))
+room-left : (c : tie.After-make-room Inv-loop μ-loop) → c .make-room .result .input .held < length (c .make-room .last .0)
+room-left c =
+    let listed = c .before .before .before .before .before .before in
+    let same = listed .before .before .before .before .loop .inv .1 in
+    let roomy = listed .before .before .before .before .before .before .before .before .pre .0 in
+    c .make-room .ensures .1 .1 _ _ (c .before .before .enum-told .given .1) (listed-then listed) (omega (arith, same, roomy))
 
 -- A stage that is not matched is another one.
 not-read : (x : Stage) → OneOf (0 ∷ 1 ∷ 3 ∷ 4 ∷ 5 ∷ 6 ∷ []) (tagOf the-type x) → x ≡ Reading → ⊥
@@ -52,11 +55,11 @@ joined c =
     let inv = listed .before .before .before .before .loop .inv .0 in
     let told = w .1 in
     let room = w .3 in
-    let read = w .7 in
-    let back = w .8 in
-    let received = w .11 in
+    let read = w .8 in
+    let back = w .9 in
+    let received = w .12 in
     let reading = room .ensures .1 .0 ∙ told .given .1 in
-    read-then _ _ _ _ _ _ _ _ _ _ (toZ w64 (ofZ w64 (read .result))) (room .ensures .0 _ _ (listed-then listed)) reading (inv .3) refl (back .given .1) (received .ensures .0) (received .ensures .1) (w .13) (w .12))
+    read-then _ _ _ _ _ _ _ _ _ _ (toZ w64 (ofZ w64 (read .result))) (room .ensures .0 _ _ (listed-then listed)) reading (inv .3) refl (back .given .1) (received .ensures .0) (received .ensures .1) (w .14) (w .13))
     (λ w.
     let listed = c .before .before .before in
     let inv = listed .before .before .before .before .loop .inv .0 in
@@ -68,8 +71,8 @@ joined-length c =
     ⊎-elim
     (λ w.
     let room-back = w .4 in
-    let back = w .8 in
-    ap length (w .12) ∙ (back .given .1 ∙ (room-back .given ∙ c .before .before .before .before .before .before .before .loop .inv .1)))
+    let back = w .9 in
+    ap length (w .13) ∙ (back .given .1 ∙ (room-back .given ∙ c .before .before .before .before .before .before .before .loop .inv .1)))
     (λ w. ap length (w .1) ∙ c .before .before .before .before .before .before .before .loop .inv .1)
     (c .match .came)
 
@@ -81,20 +84,16 @@ turns-spec =
     μ-loop
     (λ c κs. tt)
     (λ c. ((nothingYet, c .started .ensures .1 _ _, c .started .ensures .0, omega arith), refl, refl, omega arith))
-    (λ c κs. c .before .before .before .loop .inv .0 .1 .fits)
+    (λ c κs. c .before .before .before .loop .inv .0 .1 .room)
     (λ c. search needs)
-    (λ c κs.
-    let fits = listed-then (c .before .before .before .before .before) .fits in
-    let same = c .before .before .before .before .before .before .before .before .before .loop .inv .1 in
-    let roomy = c .before .before .before .before .before .before .before .before .before .before .before .before .before .pre .0 in
-    (fits .order, (fits .inside, omega (arith, same, roomy))))
-    (λ c. room-then (c .before .before) .fits .inside)
-    (λ c. let inside = room-then (c .before .before) .fits .inside in omega (arith, inside))
-    (λ c. let inside = room-then (c .before .before) .fits .inside in search needs)
     (λ c κs. tt)
-    (λ c κs. let room = room-left (c .before .before .before .before .before .before .before) in let same = c .before .before .window2 .given .1 in omega (arith, room, same))
+    (λ c. room-then (c .before .before .before) .input .inside)
+    (λ c. let inside = room-then (c .before .before .before) .input .inside in omega (arith, inside))
+    (λ c. let inside = room-then (c .before .before .before) .input .inside in search needs)
     (λ c κs. tt)
-    (λ c κs. joined (c .before .before .before) .1 .fits .room)
+    (λ c κs. let room = room-left (c .before .before .before .before .before .before .before .before) in let same = c .before .before .window2 .given .1 in omega (arith, room, same))
+    (λ c κs. tt)
+    (λ c κs. joined (c .before .before .before) .1 .room)
     (λ c κs. tt)
     (λ c κs. tt)
     (λ c κs. tt)

@@ -10,4 +10,4 @@ wrote-spec =
     tie.close
     (tie.spec
     (λ c κs. search needs)
-    (λ c. (refl, (c .stage-written .ensures, λ h window text e st. write-stands h _ window text st (c .before .before .args .taken) _ _ e (c .stage-written .ensures)))))
+    (λ c. (refl, (c .stage-written .ensures, λ h window text e st. write-stands h _ window text st (c .before .before .before .args .taken) _ _ e (c .stage-written .ensures)))))

@@ -1,0 +1,3 @@
+-- What a window shows of an input, after any number of reads.
+pub mod Reads
+pub mod Window

@@ -1,0 +1,19 @@
+-- Its pieces one behind another.
+use Rattle.listing_text.specs.Text.{puts}
+use borrow.Author.Needs.{needs}
+use Rattle.listing_text.proofs.line.refused_line.Statement.{statement}
+use Rattle.listing_text.proofs.line.refused_line.Tie as tie
+
+pub refused-line-spec : {M : Type 1} → statement M
+unfolding puts
+refused-line-spec =
+    tie.close
+    (tie.spec
+    (λ c κs. search needs)
+    (λ c. search needs)
+    (λ c κs. search needs)
+    (λ c κs. search needs)
+    (λ c. search needs)
+    (λ c κs. search needs)
+    (λ c. search needs)
+    (λ c. let four = c .before .before in let three = four .before .before .before .before .before in let two = three .before .before .before .before in let one = two .before .before .before .before .before in rw (← one .put-decimal .ensures, ← two .put-word .ensures, ← three .put-decimal2 .ensures, ← four .put-word2 .ensures)))
