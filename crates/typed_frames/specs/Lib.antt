@@ -1,3 +1,4 @@
 -- Typed frames from their slots.
+pub mod Taken
 pub mod Typed
 pub mod Answer

@@ -1,5 +1,6 @@
 // Typed frames: reading and writing, by way of their slots.
 mod reading;
+mod taker;
 mod writing;
 
 pub use reading::Reading;

@@ -12,15 +12,10 @@ unfolding typedFields table rowIn
 second-version-spec =
     tie.close
     (tie.spec
-    (λ c. search needs)
     (λ c κs. search needs)
-    (λ c. search needs)
-    (λ c. search needs)
-    (λ c. search needs)
     (λ c κs. search needs)
-    (λ c. rw (c .before .before .before .before .before .before .if1 .taken, c .list-of .ensures, c .before .before .before .before .cut8 .ensures) refl)
-    (λ c. search needs)
+    (λ c. rw (c .before .before .before .before .if1 .taken, c .take-list .ensures .0, c .before .before .take-u8 .ensures .0, c .before .before .take-u8 .ensures .1) refl)
     (λ c κs. search needs)
-    (λ c. search needs)
     (λ c κs. search needs)
-    (λ c. let l = c .before .before .before .before in rw (second-version _ (l .before .pre) (l .if1 .left), c .chunk-of .ensures, c .before .before .cut82 .ensures) refl))
+    (λ c κs. search needs)
+    (λ c. rw (second-version _ (c .before .before .before .before .before .before .before .before .pre) (c .before .before .before .before .before .before .if1 .left), c .take-chunk .ensures .0, c .before .before .take-u64 .ensures .0, c .before .before .before .before .take-u82 .ensures .0, c .before .before .take-u64 .ensures .1, c .before .before .before .before .take-u82 .ensures .1) refl))

@@ -1,0 +1,15 @@
+-- What its slots say.
+use mathlib.Core.Path.{refl}
+use borrow.Author.Needs.{needs}
+use Rattle.typed_frames.proofs.taker.take_place.Statement.{statement}
+use Rattle.typed_frames.proofs.taker.take_place.Tie as tie
+
+pub take-place-spec : {M : Type 1} → statement M
+take-place-spec =
+    tie.close
+    (tie.spec
+    (λ c κs. search needs)
+    (λ c κs. search needs)
+    (λ c κs. search needs)
+    (λ c κs. search needs)
+    (λ c. (rw (c .place-of .ensures, c .before .slot2 .ensures, c .before .before .slot .ensures) refl, c .before .before .before .pass .ensures)))
