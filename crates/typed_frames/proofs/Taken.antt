@@ -1,9 +1,10 @@
--- Slots after others. Assumes nothing.
+-- Slots that are taken one after the other. Assumes nothing.
 use mathlib.Core.Path.{_≡_, refl, _∙_, sym, ap}
 use mathlib.Core.List.{List, [], _∷_}
 use Prim.Native.Nat.{ℕ, zero, suc, _+_, _≤_}
 use native.Mathlib.Nat.{le-of-suc-le-suc, not-suc-le-zero}
-use lib.ListN.{length, drop}
+use native.Mathlib.Omega.{arith}
+use lib.ListN.{length, getD, drop}
 use lib.Seq.{drop-drop, getD-drop}
 use Rattle.protocol.specs.Fields.{place}
 use Rattle.protocol.specs.Fields as F
@@ -18,8 +19,18 @@ none-left [] (suc n) h = refl
 none-left (x ∷ xs) zero h = absurd (not-suc-le-zero h)
 none-left (x ∷ xs) (suc n) h = none-left xs n (le-of-suc-le-suc h)
 
-pub past-end : (s : List ℕ) (at n next : ℕ) → length s ≤ next → length s ≤ at + n → drop next s ≡ drop n (drop at s)
-past-end s at n next h k = none-left s next h ∙ sym (drop-drop n at s ∙ none-left s (at + n) k)
+pub past-last : (s : List ℕ) (at : ℕ) → length s ≤ at → (0 ≡ slot (drop at s) 0) × (drop at s ≡ drop 1 (drop at s))
+past-last s at h = rw (none-left s at h) (refl, refl)
+
+pub one-taken : (s : List ℕ) (at : ℕ) → (getD s at 0 ≡ slot (drop at s) 0) × (drop (at + 1) s ≡ drop 1 (drop at s))
+one-taken s at = let e : at + 0 ≡ at = omega arith in (rw e at (sym (getD-drop at s 0 0)), sym (drop-drop 1 at s))
+
+-- After k slots: the next one, and what follows it.
+pub nth : (k : ℕ) (l m : List ℕ) → m ≡ drop k l → slot m 0 ≡ slot l k
+nth k l m e = let z : k + 0 ≡ k = omega arith in rw (e) (rw z at (getD-drop k l 0 0))
+
+pub next : (k : ℕ) (l m n : List ℕ) → m ≡ drop k l → n ≡ drop 1 m → n ≡ drop (k + 1) l
+next k l m n e f = f ∙ ap (drop 1) e ∙ drop-drop 1 k l
 
 -- A chunk's header takes twelve slots, and the place of its data the next two.
 pub header-and-place : (l m n : List ℕ) (h : ChunkHeader) (p : Place)

@@ -3,7 +3,6 @@
 ghost use mathlib.Core.Bool.{true, false, cond};
 ghost use mathlib.Core.Path.{_≡_};
 ghost use Prim.Native.Nat.{_%_};
-ghost use lib.ListN.{drop};
 ghost use Rattle.protocol.specs.Fields as F;
 ghost use Rattle.protocol.specs.Frames.{chunkField, listField, nullableField};
 ghost use Rattle.slots.specs.Unflat.{slot, unflatOctets, unflatOffset};
@@ -20,38 +19,35 @@ use slots::list_of;
 use slots::nullable_of;
 use slots::offset_of;
 use slots::place_of;
-use slots::slot;
+
+// After the last slot there is a 0.
+pub fn take_u64(slots: &[u64], at: &mut usize) -> u64
+    ensures { λ r. ⌜ Taken 1 (now (slots .entry)) (now (at .entry)) (now (at .exit)) (λ l. r ≡ slot l 0) ⌝ }
+{
+    let i = *at;
+    if slots.len() <= i {
+        return 0;
+    }
+    *at = i + 1;
+    slots[i]
+}
 
 pub fn take_u8(slots: &[u64], at: &mut usize) -> u8
     ensures { λ r. ⌜ Taken 1 (now (slots .entry)) (now (at .entry)) (now (at .exit)) (λ l. r ≡ slot l 0 % 0x100) ⌝ }
 {
-    cut8(take_u64(slots, at))
+    (take_u64(slots, at) % 0x100) as u8
 }
 
 pub fn take_u16(slots: &[u64], at: &mut usize) -> u16
     ensures { λ r. ⌜ Taken 1 (now (slots .entry)) (now (at .entry)) (now (at .exit)) (λ l. r ≡ slot l 0 % 0x1_0000) ⌝ }
 {
-    cut16(take_u64(slots, at))
+    (take_u64(slots, at) % 0x1_0000) as u16
 }
 
 pub fn take_u32(slots: &[u64], at: &mut usize) -> u32
     ensures { λ r. ⌜ Taken 1 (now (slots .entry)) (now (at .entry)) (now (at .exit)) (λ l. r ≡ slot l 0 % 0x1_0000_0000) ⌝ }
 {
-    cut32(take_u64(slots, at))
-}
-
-pub fn take_u64(slots: &[u64], at: &mut usize) -> u64
-    ensures { λ r. ⌜ Taken 1 (now (slots .entry)) (now (at .entry)) (now (at .exit)) (λ l. r ≡ slot l 0) ⌝ }
-{
-    let begin = *at;
-    pass(slots, at, 1);
-    slot(slots, begin, 0)
-}
-
-pub fn take_code(slots: &[u64], at: &mut usize) -> ResponseCode
-    ensures { λ r. ⌜ Taken 1 (now (slots .entry)) (now (at .entry)) (now (at .exit)) (λ l. r .number ≡ slot l 0 % 0x1_0000) ⌝ }
-{
-    ResponseCode::from_number(take_u16(slots, at))
+    (take_u64(slots, at) % 0x1_0000_0000) as u32
 }
 
 pub fn take_flag(slots: &[u64], at: &mut usize) -> bool
@@ -60,40 +56,38 @@ pub fn take_flag(slots: &[u64], at: &mut usize) -> bool
     take_u64(slots, at) % 2 == 1
 }
 
+pub fn take_code(slots: &[u64], at: &mut usize) -> ResponseCode
+    ensures { λ r. ⌜ Taken 1 (now (slots .entry)) (now (at .entry)) (now (at .exit)) (λ l. r .number ≡ slot l 0 % 0x1_0000) ⌝ }
+{
+    ResponseCode::from_number(take_u16(slots, at))
+}
+
 pub fn take_place(slots: &[u64], at: &mut usize) -> Place
     ensures { λ r. ⌜ Taken 2 (now (slots .entry)) (now (at .entry)) (now (at .exit)) (λ l. r ≡ F.place (slot l 0) (slot l 1)) ⌝ }
 {
-    let begin = *at;
-    pass(slots, at, 2);
-    place_of(slot(slots, begin, 0), slot(slots, begin, 1))
+    place_of(take_u64(slots, at), take_u64(slots, at))
 }
 
 pub fn take_nullable(slots: &[u64], at: &mut usize) -> NullablePlace
     ensures { λ r. ⌜ Taken 2 (now (slots .entry)) (now (at .entry)) (now (at .exit)) (λ l. nullableField r ≡ F.string (unflatOctets true (slot l 0) (slot l 1))) ⌝ }
 {
-    let begin = *at;
-    pass(slots, at, 2);
-    nullable_of(slot(slots, begin, 0), slot(slots, begin, 1))
-}
-
-pub fn take_list(slots: &[u64], at: &mut usize) -> Elements
-    ensures { λ r. ⌜ Taken 3 (now (slots .entry)) (now (at .entry)) (now (at .exit)) (λ l. listField r ≡ F.elements (slot l 0) (F.place (slot l 1) (slot l 2))) ⌝ }
-{
-    let begin = *at;
-    pass(slots, at, 3);
-    list_of(
-        slot(slots, begin, 0),
-        slot(slots, begin, 1),
-        slot(slots, begin, 2),
-    )
+    nullable_of(take_u64(slots, at), take_u64(slots, at))
 }
 
 pub fn take_offset(slots: &[u64], at: &mut usize) -> OffsetSpecification
     ensures { λ r. ⌜ Taken 2 (now (slots .entry)) (now (at .entry)) (now (at .exit)) (λ l. r ≡ unflatOffset false (slot l 0) (slot l 1)) ⌝ }
 {
-    let begin = *at;
-    pass(slots, at, 2);
-    offset_of(slot(slots, begin, 0), slot(slots, begin, 1))
+    offset_of(take_u64(slots, at), take_u64(slots, at))
+}
+
+pub fn take_list(slots: &[u64], at: &mut usize) -> Elements
+    ensures { λ r. ⌜ Taken 3 (now (slots .entry)) (now (at .entry)) (now (at .exit)) (λ l. listField r ≡ F.elements (slot l 0) (F.place (slot l 1) (slot l 2))) ⌝ }
+{
+    list_of(
+        take_u64(slots, at),
+        take_u64(slots, at),
+        take_u64(slots, at),
+    )
 }
 
 pub fn take_chunk(slots: &[u64], at: &mut usize) -> Chunk
@@ -110,54 +104,18 @@ pub fn take_chunk(slots: &[u64], at: &mut usize) -> Chunk
 fn take_header(slots: &[u64], at: &mut usize) -> ChunkHeader
     ensures { λ r. ⌜ Taken 12 (now (slots .entry)) (now (at .entry)) (now (at .exit)) (λ l. r ≡ typedHeader l) ⌝ }
 {
-    let begin = *at;
-    pass(slots, at, 12);
     ChunkHeader {
-        magic: wire::signed8(cut8(slot(slots, begin, 0))),
-        chunk_type: wire::signed8(cut8(slot(slots, begin, 1))),
-        entries: cut16(slot(slots, begin, 2)),
-        records: cut32(slot(slots, begin, 3)),
-        timestamp: wire::signed64(slot(slots, begin, 4)),
-        epoch: slot(slots, begin, 5),
-        first_offset: slot(slots, begin, 6),
-        checksum: wire::signed32(cut32(slot(slots, begin, 7))),
-        data_length: cut32(slot(slots, begin, 8)),
-        trailer_length: cut32(slot(slots, begin, 9)),
-        bloom_size: cut8(slot(slots, begin, 10)),
-        reserved: cut32(slot(slots, begin, 11)),
+        magic: wire::signed8(take_u8(slots, at)),
+        chunk_type: wire::signed8(take_u8(slots, at)),
+        entries: take_u16(slots, at),
+        records: take_u32(slots, at),
+        timestamp: wire::signed64(take_u64(slots, at)),
+        epoch: take_u64(slots, at),
+        first_offset: take_u64(slots, at),
+        checksum: wire::signed32(take_u32(slots, at)),
+        data_length: take_u32(slots, at),
+        trailer_length: take_u32(slots, at),
+        bloom_size: take_u8(slots, at),
+        reserved: take_u32(slots, at),
     }
-}
-
-fn cut8(x: u64) -> u8
-    ensures { λ r. ⌜ r ≡ x % 0x100 ⌝ }
-{
-    (x % 0x100) as u8
-}
-
-fn cut16(x: u64) -> u16
-    ensures { λ r. ⌜ r ≡ x % 0x1_0000 ⌝ }
-{
-    (x % 0x1_0000) as u16
-}
-
-fn cut32(x: u64) -> u32
-    ensures { λ r. ⌜ r ≡ x % 0x1_0000_0000 ⌝ }
-{
-    (x % 0x1_0000_0000) as u32
-}
-
-// Goes past n slots, to the end at most.
-fn pass(slots: &[u64], at: &mut usize, n: usize)
-    ensures { λ _. ⌜ drop (now (at .exit)) (now (slots .entry)) ≡ drop n (drop (now (at .entry)) (now (slots .entry))) ⌝ }
-{
-    let begin = *at;
-    let len = slots.len();
-    if len <= begin {
-        return;
-    }
-    if len - begin < n {
-        *at = len;
-        return;
-    }
-    *at = begin + n;
 }

@@ -11,6 +11,7 @@ use Rattle.wire.specs.Signed as two's
 use Rattle.protocol.specs.declared.chunk.ChunkHeader.{ChunkHeader}
 use Rattle.slots.specs.Unflat.{slot}
 use Rattle.typed_frames.specs.Typed.{typedHeader}
+use Rattle.typed_frames.proofs.Taken.{nth, next}
 use Rattle.typed_frames.proofs.taker.take_header.Statement.{statement}
 use Rattle.typed_frames.proofs.taker.take_header.Tie as tie
 
@@ -51,37 +52,38 @@ take-header-spec =
     (λ c κs. search needs)
     (λ c κs. search needs)
     (λ c κs. search needs)
-    (λ c κs. search needs)
-    (λ c κs. search needs)
-    (λ c κs. search needs)
-    (λ c κs. search needs)
-    (λ c κs. search needs)
-    (λ c κs. search needs)
-    (λ c κs. search needs)
-    (λ c κs. search needs)
-    (λ c κs. search needs)
-    (λ c κs. search needs)
     (λ c.
-    let trailer = c .before .before .before .before in
-    let checksum = trailer .before .before .before .before in
-    let timestamp = checksum .before .before .before .before .before in
-    let entries = timestamp .before .before .before .before in
+    let trailer = c .before .before .before .before .before .before in
+    let checksum = trailer .before .before in
+    let timestamp = checksum .before .before .before .before .before .before .before in
+    let entries = timestamp .before .before .before .before .before in
     let type = entries .before .before in
     let magic = type .before .before .before in
-    let passed = magic .before .before .before in
-    let a = passed .before .before .before .before .args in (
-      header-typed (drop (a .at .now) (a .slots .now)) _ _ _ _ _ _ _ _ _ _ _ _
-          (toZ-ofZ {w = w8} (sfits-of (magic .signed8 .ok)) ∙ magic .signed8 .ensures ∙ ap (two's.signed 1) (magic .before .cut8 .ensures ∙ ap (λ (x : ℕ). x % 256 ^ 1) (magic .before .before .slot .ensures)))
-          (toZ-ofZ {w = w8} (sfits-of (type .signed82 .ok)) ∙ type .signed82 .ensures ∙ ap (two's.signed 1) (type .before .cut82 .ensures ∙ ap (λ (x : ℕ). x % 256 ^ 1) (type .before .before .slot2 .ensures)))
-          (entries .cut16 .ensures ∙ ap (λ (x : ℕ). x % 256 ^ 2) (entries .before .slot3 .ensures))
-          (timestamp .before .before .cut32 .ensures ∙ ap (λ (x : ℕ). x % 256 ^ 4) (timestamp .before .before .before .slot4 .ensures))
-          (toZ-ofZ {w = w64} (sfits-of (timestamp .signed64 .ok)) ∙ timestamp .signed64 .ensures ∙ ap (two's.signed 8) (timestamp .before .slot5 .ensures))
-          (checksum .before .before .before .before .slot6 .ensures)
-          (checksum .before .before .before .slot7 .ensures)
-          (toZ-ofZ {w = w32} (sfits-of (checksum .signed32 .ok)) ∙ checksum .signed32 .ensures ∙ ap (two's.signed 4) (checksum .before .cut322 .ensures ∙ ap (λ (x : ℕ). x % 256 ^ 4) (checksum .before .before .slot8 .ensures)))
-          (trailer .before .before .cut323 .ensures ∙ ap (λ (x : ℕ). x % 256 ^ 4) (trailer .before .before .before .slot9 .ensures))
-          (trailer .cut324 .ensures ∙ ap (λ (x : ℕ). x % 256 ^ 4) (trailer .before .slot10 .ensures))
-          (c .before .before .cut83 .ensures ∙ ap (λ (x : ℕ). x % 256 ^ 1) (c .before .before .before .slot11 .ensures))
-          (c .cut325 .ensures ∙ ap (λ (x : ℕ). x % 256 ^ 4) (c .before .slot12 .ensures)),
-      passed .pass .ensures,
+    let a = magic .before .before .before .before .args in
+    let l = drop (a .at .now) (a .slots .now) in
+    let s1 = magic .before .take-u8 .ensures .1 in
+    let s2 = next 1 l _ _ s1 (type .before .take-u82 .ensures .1) in
+    let s3 = next 2 l _ _ s2 (entries .take-u16 .ensures .1) in
+    let s4 = next 3 l _ _ s3 (timestamp .before .before .before .take-u32 .ensures .1) in
+    let s5 = next 4 l _ _ s4 (timestamp .before .take-u64 .ensures .1) in
+    let s6 = next 5 l _ _ s5 (checksum .before .before .before .before .before .take-u642 .ensures .1) in
+    let s7 = next 6 l _ _ s6 (checksum .before .before .before .take-u643 .ensures .1) in
+    let s8 = next 7 l _ _ s7 (checksum .before .take-u322 .ensures .1) in
+    let s9 = next 8 l _ _ s8 (trailer .take-u323 .ensures .1) in
+    let s10 = next 9 l _ _ s9 (c .before .before .before .before .take-u324 .ensures .1) in
+    let s11 = next 10 l _ _ s10 (c .before .before .take-u83 .ensures .1) in (
+      header-typed l _ _ _ _ _ _ _ _ _ _ _ _
+          (toZ-ofZ {w = w8} (sfits-of (magic .signed8 .ok)) ∙ magic .signed8 .ensures ∙ ap (two's.signed 1) (magic .before .take-u8 .ensures .0))
+          (toZ-ofZ {w = w8} (sfits-of (type .signed82 .ok)) ∙ type .signed82 .ensures ∙ ap (two's.signed 1) (type .before .take-u82 .ensures .0 ∙ ap (λ (x : ℕ). x % 256 ^ 1) (nth 1 l _ s1)))
+          (entries .take-u16 .ensures .0 ∙ ap (λ (x : ℕ). x % 256 ^ 2) (nth 2 l _ s2))
+          (timestamp .before .before .before .take-u32 .ensures .0 ∙ ap (λ (x : ℕ). x % 256 ^ 4) (nth 3 l _ s3))
+          (toZ-ofZ {w = w64} (sfits-of (timestamp .signed64 .ok)) ∙ timestamp .signed64 .ensures ∙ ap (two's.signed 8) (timestamp .before .take-u64 .ensures .0 ∙ nth 4 l _ s4))
+          (checksum .before .before .before .before .before .take-u642 .ensures .0 ∙ nth 5 l _ s5)
+          (checksum .before .before .before .take-u643 .ensures .0 ∙ nth 6 l _ s6)
+          (toZ-ofZ {w = w32} (sfits-of (checksum .signed32 .ok)) ∙ checksum .signed32 .ensures ∙ ap (two's.signed 4) (checksum .before .take-u322 .ensures .0 ∙ ap (λ (x : ℕ). x % 256 ^ 4) (nth 7 l _ s7)))
+          (trailer .take-u323 .ensures .0 ∙ ap (λ (x : ℕ). x % 256 ^ 4) (nth 8 l _ s8))
+          (c .before .before .before .before .take-u324 .ensures .0 ∙ ap (λ (x : ℕ). x % 256 ^ 4) (nth 9 l _ s9))
+          (c .before .before .take-u83 .ensures .0 ∙ ap (λ (x : ℕ). x % 256 ^ 1) (nth 10 l _ s10))
+          (c .take-u325 .ensures .0 ∙ ap (λ (x : ℕ). x % 256 ^ 4) (nth 11 l _ s11)),
+      next 11 l _ _ s11 (c .take-u325 .ensures .1),
     )))

@@ -1,5 +1,7 @@
 -- What its slots say.
 use mathlib.Core.Path.{refl}
+use lib.ListN.{drop}
+use Rattle.typed_frames.proofs.Taken.{nth, next}
 use borrow.Author.Needs.{needs}
 use Rattle.typed_frames.proofs.taker.take_list.Statement.{statement}
 use Rattle.typed_frames.proofs.taker.take_list.Tie as tie
@@ -12,5 +14,11 @@ take-list-spec =
     (λ c κs. search needs)
     (λ c κs. search needs)
     (λ c κs. search needs)
-    (λ c κs. search needs)
-    (λ c. (rw (c .list-of .ensures, c .before .slot3 .ensures, c .before .before .slot2 .ensures, c .before .before .before .slot .ensures) refl, c .before .before .before .before .pass .ensures)))
+    (λ c.
+    let a = c .before .before .before .before .before .before .before .before .args in
+    let first = c .before .before .before .before .before .take-u64 .ensures in
+    let second = c .before .before .before .take-u642 .ensures in
+    let third = c .before .take-u643 .ensures in
+    let slots = drop (a .at .now) (a .slots .now) in
+    let two = next 1 slots _ _ (first .1) (second .1) in
+    (rw (c .list-of .ensures, third .0, second .0, first .0, nth 1 slots _ (first .1), nth 2 slots _ two) refl, next 2 slots _ _ two (third .1))))

@@ -1,5 +1,7 @@
 -- What its slots say.
 use mathlib.Core.Path.{refl}
+use lib.ListN.{drop}
+use Rattle.typed_frames.proofs.Taken.{nth, next}
 use borrow.Author.Needs.{needs}
 use Rattle.typed_frames.proofs.taker.take_offset.Statement.{statement}
 use Rattle.typed_frames.proofs.taker.take_offset.Tie as tie
@@ -11,5 +13,9 @@ take-offset-spec =
     (λ c κs. search needs)
     (λ c κs. search needs)
     (λ c κs. search needs)
-    (λ c κs. search needs)
-    (λ c. (rw (c .offset-of .ensures, c .before .slot2 .ensures, c .before .before .slot .ensures) refl, c .before .before .before .pass .ensures)))
+    (λ c.
+    let a = c .before .before .before .before .before .before .args in
+    let first = c .before .before .before .take-u64 .ensures in
+    let second = c .before .take-u642 .ensures in
+    let slots = drop (a .at .now) (a .slots .now) in
+    (rw (c .offset-of .ensures, second .0, first .0, nth 1 slots _ (first .1)) refl, next 1 slots _ _ (first .1) (second .1))))
