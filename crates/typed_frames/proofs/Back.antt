@@ -34,7 +34,7 @@ use Rattle.frame_reading.specs.Answer.{told}
 use Rattle.frame_reading.specs.declared.reading.FrameRead.the-variants.{Frame}
 use Rattle.frame_reading.proofs.Told.{frame-told, slots-told}
 use Rattle.protocol.specs.Decision.{layout, decide}
-use Rattle.typed_frames.specs.Typed.{cut, typedHeader, typedField, typedRow, typedFields}
+use Rattle.slot_frames.specs.Typed.{cut, typedHeader, typedField, typedRow, typedFields}
 
 -- ---- A chunk's header
 

@@ -1,4 +1,2 @@
--- Typed frames from their slots.
-pub mod Taken
-pub mod Typed
+-- Typed frames.
 pub mod Answer

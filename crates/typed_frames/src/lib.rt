@@ -1,6 +1,5 @@
 // Typed frames: reading and writing, by way of their slots.
 mod reading;
-mod taker;
 mod writing;
 
 pub use reading::Reading;
