@@ -1,10 +1,10 @@
 -- A test of every line of the table is a test of every key and version that are listed. Assumes nothing.
 use mathlib.Core.Path.{_≡_, refl, _∙_, sym, subst}
-use mathlib.Core.Bool.{Bool, true, false, cond, _&&_, _||_, not, false≢true}
+use mathlib.Core.Bool.{Bool, true, false, _&&_, _||_, false≢true}
 use mathlib.Core.List.{List, [], _∷_}
 use Prim.Native.Nat.{ℕ, _≤_, _<_}
 use lib.Dec.{eqb, ltb, leb}
-use borrow.Author.Tests.{eqb-true, le-ltb, lt-leb, ne-eqb, eq-eqb}
+use borrow.Author.Tests.{eqb-true, le-ltb, lt-leb, ne-eqb}
 use Rattle.protocol.specs.Decision.{Decision, layout, unlistedKey, unlistedVersion, versionsIn, ofVersion, decide}
 use Rattle.protocol.specs.Decision as decision
 use Rattle.protocol.specs.Table.{Listing, table}

@@ -32,6 +32,15 @@ nth k l m e = let z : k + 0 ≡ k = omega arith in rw (e) (rw z at (getD-drop k 
 pub next : (k : ℕ) (l m n : List ℕ) → m ≡ drop k l → n ≡ drop 1 m → n ≡ drop (k + 1) l
 next k l m n e f = f ∙ ap (drop 1) e ∙ drop-drop 1 k l
 
+-- Two slots, and three, one after the other.
+pub two-taken : (l m n : List ℕ) (x y : ℕ) → (x ≡ slot l 0) × (m ≡ drop 1 l) → (y ≡ slot m 0) × (n ≡ drop 1 m) → (x ≡ slot l 0) × (y ≡ slot l 1) × (n ≡ drop 2 l)
+two-taken l m n x y a b = (a .0, b .0 ∙ nth 1 l m (a .1), next 1 l m n (a .1) (b .1))
+
+pub three-taken : (l m n o : List ℕ) (x y z : ℕ) → (x ≡ slot l 0) × (m ≡ drop 1 l) → (y ≡ slot m 0) × (n ≡ drop 1 m) → (z ≡ slot n 0) × (o ≡ drop 1 n) → (x ≡ slot l 0) × (y ≡ slot l 1) × (z ≡ slot l 2) × (o ≡ drop 3 l)
+three-taken l m n o x y z a b c =
+    let t = two-taken l m n x y a b in
+    (t .0, t .1, c .0 ∙ nth 2 l n (t .2), next 2 l n o (t .2) (c .1))
+
 -- A chunk's header takes twelve slots, and the place of its data the next two.
 pub header-and-place : (l m n : List ℕ) (h : ChunkHeader) (p : Place)
     → h ≡ typedHeader l → p ≡ place (slot m 0) (slot m 1) → m ≡ drop 12 l → n ≡ drop 2 m

@@ -8,7 +8,6 @@ use mir.Syntax.{w8, w32, w64}
 use mir.Facts.{toZ-ofZ}
 use borrow.Author.Needs.{needs, sfits-of}
 use Rattle.wire.specs.Signed as two's
-use Rattle.protocol.specs.declared.chunk.ChunkHeader.{ChunkHeader}
 use Rattle.slots.specs.Unflat.{slot}
 use Rattle.slot_frames.specs.Typed.{typedHeader}
 use Rattle.slot_frames.proofs.Taken.{nth, next}

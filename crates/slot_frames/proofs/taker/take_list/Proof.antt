@@ -1,7 +1,7 @@
 -- What its slots say.
 use mathlib.Core.Path.{refl}
 use lib.ListN.{drop}
-use Rattle.slot_frames.proofs.Taken.{nth, next}
+use Rattle.slot_frames.proofs.Taken.{three-taken}
 use borrow.Author.Needs.{needs}
 use Rattle.slot_frames.proofs.taker.take_list.Statement.{statement}
 use Rattle.slot_frames.proofs.taker.take_list.Tie as tie
@@ -16,9 +16,5 @@ take-list-spec =
     (λ c κs. search needs)
     (λ c.
     let a = c .before .before .before .before .before .before .before .before .args in
-    let first = c .before .before .before .before .before .take-u64 .ensures in
-    let second = c .before .before .before .take-u642 .ensures in
-    let third = c .before .take-u643 .ensures in
-    let slots = drop (a .at .now) (a .slots .now) in
-    let two = next 1 slots _ _ (first .1) (second .1) in
-    (rw (c .list-of .ensures, third .0, second .0, first .0, nth 1 slots _ (first .1), nth 2 slots _ two) refl, next 2 slots _ _ two (third .1))))
+    let t = three-taken (drop (a .at .now) (a .slots .now)) _ _ _ _ _ _ (c .before .before .before .before .before .take-u64 .ensures) (c .before .before .before .take-u642 .ensures) (c .before .take-u643 .ensures) in
+    (rw (c .list-of .ensures, t .0, t .1, t .2) refl, t .3)))

@@ -1,7 +1,7 @@
 -- What its slots say.
 use mathlib.Core.Path.{refl}
 use lib.ListN.{drop}
-use Rattle.slot_frames.proofs.Taken.{nth, next}
+use Rattle.slot_frames.proofs.Taken.{two-taken}
 use borrow.Author.Needs.{needs}
 use Rattle.slot_frames.proofs.taker.take_place.Statement.{statement}
 use Rattle.slot_frames.proofs.taker.take_place.Tie as tie
@@ -15,7 +15,5 @@ take-place-spec =
     (λ c κs. search needs)
     (λ c.
     let a = c .before .before .before .before .before .before .args in
-    let first = c .before .before .before .take-u64 .ensures in
-    let second = c .before .take-u642 .ensures in
-    let slots = drop (a .at .now) (a .slots .now) in
-    (rw (c .place-of .ensures, second .0, first .0, nth 1 slots _ (first .1)) refl, next 1 slots _ _ (first .1) (second .1))))
+    let t = two-taken (drop (a .at .now) (a .slots .now)) _ _ _ _ (c .before .before .before .take-u64 .ensures) (c .before .take-u642 .ensures) in
+    (rw (c .place-of .ensures, t .0, t .1) refl, t .2)))
