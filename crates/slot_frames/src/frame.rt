@@ -1,4 +1,5 @@
-// The typed frame of slots: its key and version, then its fields in wire order.
+// The typed frame of slots. The fields of a case are taken in the order in which they are written here, which is that of the
+// wire.
 ghost use mathlib.Core.Path.{_≡_};
 ghost use Prim.Native.Nat.{_<_, _≤_};
 ghost use Rattle.protocol.specs.Frames.{fieldsOf};
@@ -37,7 +38,8 @@ pub fn frame_of(slots: &[u64; 24]) -> Frame
     response(key, slots)
 }
 
-// Version 1 of the keys from 0001 to 000f. No other key of these is listed. Most begin with a correlation id.
+// Version 1 of the keys from 0001 to 000f. No other key of these is listed. Most begin with a correlation id; the others are
+// taken from the start.
 fn early_request(key: u64, slots: &[u64]) -> Frame
     ensures { λ r. ⌜ (Listed key 1 → key < 0x0010 → fieldsOf r ≡ typedFields key 1 (now (slots .entry))) ⌝ }
 {
@@ -119,7 +121,7 @@ fn early_request(key: u64, slots: &[u64]) -> Frame
     }
 }
 
-// Version 1 of the keys from 0010 to 001e. No other key of these is listed. Most begin with a correlation id.
+// Version 1 of the keys from 0010 to 001e, in the same way.
 fn late_request(key: u64, slots: &[u64]) -> Frame
     ensures { λ r. ⌜ (Listed key 1 → 0x0010 ≤ key → key < 0x8000 → fieldsOf r ≡ typedFields key 1 (now (slots .entry))) ⌝ }
 {
@@ -192,7 +194,7 @@ fn late_request(key: u64, slots: &[u64]) -> Frame
     }
 }
 
-// Version 1 of the keys from 8001. No other key of these is listed.
+// Version 1 of the keys from 8001 to 801e, in the same way. Most begin with a correlation id and a code.
 fn response(key: u64, slots: &[u64]) -> Frame
     ensures { λ r. ⌜ (Listed key 1 → 0x8000 ≤ key → fieldsOf r ≡ typedFields key 1 (now (slots .entry))) ⌝ }
 {
