@@ -6,13 +6,11 @@ ghost use Rattle.protocol.specs.Fields as F;
 ghost use Rattle.protocol.specs.Frames.{listField, nullableField};
 ghost use Rattle.protocol.specs.declared.offset.OffsetSpecification.the-variants.{Timestamp};
 ghost use Rattle.slots.specs.Unflat.{unflatOctets, unflatOffset};
+use crate::to_slots::NULL_LENGTH;
 use protocol::Elements;
 use protocol::NullablePlace;
 use protocol::OffsetSpecification;
 use protocol::Place;
-
-// The length of a null.
-const NULL_LENGTH: u64 = 0xffff_ffff_ffff_ffff;
 
 pub fn place_of(at: u64, len: u64) -> Place
     ensures { λ r. ⌜ r ≡ F.place at len ⌝ }
@@ -26,7 +24,7 @@ pub fn place_of(at: u64, len: u64) -> Place
 pub fn nullable_of(at: u64, len: u64) -> NullablePlace
     ensures { λ r. ⌜ nullableField r ≡ F.string (unflatOctets true at len) ⌝ }
 {
-    if len == NULL_LENGTH {
+    if len as usize == NULL_LENGTH {
         return NullablePlace::Null;
     }
     let place = place_of(at, len);

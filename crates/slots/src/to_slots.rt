@@ -23,7 +23,7 @@ pub struct FlatOffset {
 }
 
 // The length of a null, whose place is 0.
-const NULL_LENGTH: usize = 0xffff_ffff_ffff_ffff;
+pub const NULL_LENGTH: usize = 0xffff_ffff_ffff_ffff;
 
 // How many slots a field of a kind takes.
 pub fn slots_of(kind: FieldKind) -> usize

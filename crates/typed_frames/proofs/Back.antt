@@ -8,8 +8,7 @@ use native.Mathlib.Nat.{mod-eq-of-lt}
 use native.Mathlib.Omega.{arith}
 use lib.Dec.{eqb}
 use lib.IntN.{ℤ, pos, negsuc}
-use lib.ListN.{length, getD, replicate, length-append}
-use lib.Seq.{getD-append-add}
+use lib.ListN.{length, getD, replicate}
 use Rattle.wire.proofs.TwosComplement.{twos-complement}
 use Rattle.wire.proofs.Widths.{integers}
 use Rattle.wire.specs.Integers.{Bytes}
@@ -29,15 +28,13 @@ use Rattle.rules.proofs.Listed.{both, differ}
 use Rattle.rules.proofs.Inside.{inside}
 use Rattle.rules.proofs.Sound.{sound}
 use Rattle.slots.specs.Flat.{nullLength, flatHeader, flatPlace, flatField, flatRow, padded, flatFrame, slotsAfter}
-use Rattle.slots.specs.Unflat.{slotsOf}
 use Rattle.slots.proofs.Fields.{plain, plainRow, plain-table, offset-fits, of-kind, row-cases, no-more, no-fewer, told-octets}
-use Rattle.slots.proofs.Inverse.{octets-back, offset-back}
-use Rattle.slots.proofs.Padding.{field-slots}
+use Rattle.slots.proofs.Inverse.{octets-back, offset-back, field-behind}
 use Rattle.frame_reading.specs.Answer.{told}
 use Rattle.frame_reading.specs.declared.reading.FrameRead.the-variants.{Frame}
 use Rattle.frame_reading.proofs.Told.{frame-told, slots-told}
 use Rattle.protocol.specs.Decision.{layout, decide}
-use Rattle.typed_frames.specs.Typed.{cut, typedHeader, typedField, typedRow, typedFields}
+use Rattle.slot_frames.specs.Typed.{cut, typedHeader, typedField, typedRow, typedFields}
 
 -- ---- A chunk's header
 
@@ -61,7 +58,7 @@ four-back z h = ap (two's.signed 4) (low-four z h) ∙ twos-complement 3 .signed
 reserved-fits : (x : ℕ) → x < 256 ^ 3 → x < 256 ^ 4
 reserved-fits x h = omega (arith, h)
 
-header-back : (h : ChunkHeader) (rest : List ℕ) → ValidHeader h → typedHeader 0 (flatHeader h ++ rest) ≡ h
+header-back : (h : ChunkHeader) (rest : List ℕ) → ValidHeader h → typedHeader (flatHeader h ++ rest) ≡ h
 header-back h rest v =
     rw (
       byte-back (h .magic) (v .magic),
@@ -82,7 +79,7 @@ module _ (s : List ℕ) (m : ℕ) (below : m < nullLength) where
   uncut : (most x : ℕ) → x ≤ most → cut most x ≡ x
   uncut most x h = choice (λ (y : ℕ). y ≡ x) (eqb most 0xffff_ffff_ffff_ffff) _ _ (λ _. refl) (λ _. mod-eq-of-lt (omega (arith, h)))
 
-  field-back : (kind : Kind) (f : Field Place) (rest : List ℕ) → plain kind ≡ true → Valid kind (valueIn s f) → EndsBy m (f .octets) → typedField kind 0 (flatField kind f ++ rest) ≡ f
+  field-back : (kind : Kind) (f : Field Place) (rest : List ℕ) → plain kind ≡ true → Valid kind (valueIn s f) → EndsBy m (f .octets) → typedField kind (flatField kind f ++ rest) ≡ f
   unfolding Valid
   field-back (unsigned n most) f rest p v i = ap number (uncut most (f .number) (v .1)) ∙ sym (of-kind s (unsigned n most) f v)
   field-back (signed n) f rest p v i = absurd (differ p)
@@ -96,7 +93,7 @@ module _ (s : List ℕ) (m : ℕ) (below : m < nullLength) where
   Back end [] = Unit
   Back end (f ∷ fs) = ⊥
   Back (kind · row) [] = ⊥
-  Back (kind · row) (f ∷ fs) = ((rest : List ℕ) → typedField kind 0 (flatField kind f ++ rest) ≡ f) × Back row fs
+  Back (kind · row) (f ∷ fs) = ((rest : List ℕ) → typedField kind (flatField kind f ++ rest) ≡ f) × Back row fs
 
   row-valid : (row : Row) (fs : List (Field Place)) → plainRow row ≡ true → ValidRow row (map (valueIn s) fs) → PlacesEndBy m fs → Back row fs
   unfolding Back
@@ -108,34 +105,14 @@ module _ (s : List ℕ) (m : ℕ) (below : m < nullLength) where
       let q = both (plain kind) (plainRow row) p in
       (λ rest. field-back kind f rest (q .0) (c .0) (i .0), row-valid row fs (q .1) (c .1) (i .1))
 
--- ---- A row of fields, one behind another
-
--- The slots of a field are found behind whatever stands in front of them.
-module _ (front slots : List ℕ) where
-  next : (i : ℕ) → getD (front ++ slots) (length front + i) 0 ≡ getD slots i 0
-  next i = getD-append-add front slots i 0
-
-  first : getD (front ++ slots) (length front) 0 ≡ getD slots 0 0
-  first = ap (λ (i : ℕ). getD (front ++ slots) i 0) (omega arith) ∙ next 0
-
-  field-behind : (kind : Kind) → typedField kind (length front) (front ++ slots) ≡ typedField kind 0 slots
-  field-behind (unsigned n most) = rw first
-  field-behind (signed n) = rw first
-  field-behind (string form nullable) = rw (first, next 1)
-  field-behind (specification b) = rw (first, next 1)
-  field-behind (list rule row) = rw (first, next 1, next 2)
-  field-behind chunk = rw (first, next 1, next 2, next 3, next 4, next 5, next 6, next 7, next 8, next 9, next 10, next 11, next 12, next 13)
-
-row-back : (s : List ℕ) (m : ℕ) (below : m < nullLength) (row : Row) (fs : List (Field Place)) (front rest : List ℕ) → Back s m below row fs → typedRow row (length front) (front ++ (flatRow row fs ++ rest)) ≡ fs
+row-back : (s : List ℕ) (m : ℕ) (below : m < nullLength) (row : Row) (fs : List (Field Place)) (rest : List ℕ) → Back s m below row fs → typedRow row (flatRow row fs ++ rest) ≡ fs
 unfolding Back
-row-back s m below end [] front rest b = refl
-row-back s m below end (f ∷ fs) front rest b = absurd b
-row-back s m below (kind · row) [] front rest b = absurd b
-row-back s m below (kind · row) (f ∷ fs) front rest (b, bs) =
-    let whole : front ++ ((flatField kind f ++ flatRow row fs) ++ rest) ≡ front ++ (flatField kind f ++ (flatRow row fs ++ rest)) = ap (λ (x : List ℕ). front ++ x) (append-assoc (flatField kind f) (flatRow row fs) rest) in
-    let reach : length front + slotsOf kind ≡ length (front ++ flatField kind f) = sym (length-append front (flatField kind f) ∙ ap (λ (n : ℕ). length front + n) (field-slots kind f)) in
-    rw (whole) (ap₂ (λ (a : Field Place) (l : List (Field Place)). a ∷ l) (field-behind front (flatField kind f ++ (flatRow row fs ++ rest)) kind ∙ b (flatRow row fs ++ rest))
-    (ap₂ (λ (at : ℕ) (x : List ℕ). typedRow row at x) reach (sym (append-assoc front (flatField kind f) (flatRow row fs ++ rest))) ∙ row-back s m below row fs (front ++ flatField kind f) rest bs))
+row-back s m below end [] rest b = refl
+row-back s m below end (f ∷ fs) rest b = absurd b
+row-back s m below (kind · row) [] rest b = absurd b
+row-back s m below (kind · row) (f ∷ fs) rest (b, bs) =
+    ap (typedRow (kind · row)) (append-assoc (flatField kind f) (flatRow row fs) rest)
+    ∙ ap₂ (λ (a : Field Place) (l : List (Field Place)). a ∷ l) (b (flatRow row fs ++ rest)) (ap (typedRow row) (field-behind kind f (flatRow row fs ++ rest)) ∙ row-back s m below row fs rest bs)
 
 -- A frame that was read comes back.
 pub frame-back : (s : List ℕ) (limit : ℕ) (f : Fields Place) → Bytes s → readFrame s limit ≡ frame f → typedFields (f .key) (f .version) (flatFrame f) ≡ f
@@ -144,7 +121,7 @@ frame-back s limit f bytes e =
     let v = sound s limit f bytes e in
     let below : frameLength s < nullLength = omega (arith, integers 4 .range s 0 bytes) in
     ap (λ (c : List (Field Place)). record { key = f .key; version = f .version; content = c })
-    (row-back s (frameLength s) below (rowOf (f .key) (f .version)) (f .content) (f .key ∷ f .version ∷ []) (replicate (24 - length (f .key ∷ f .version ∷ flatRow (rowOf (f .key) (f .version)) (f .content))) 0)
+    (row-back s (frameLength s) below (rowOf (f .key) (f .version)) (f .content) (replicate (24 - length (f .key ∷ f .version ∷ flatRow (rowOf (f .key) (f .version)) (f .content))) 0)
     (row-valid s (frameLength s) below (rowOf (f .key) (f .version)) (f .content) (plain-table (f .key) (f .version)) (v .valid .content) (inside s limit f e)))
 
 -- What the slots of a frame that was read say: its key and version are listed, and the typed frame that they give is it.

@@ -1,3 +1,2 @@
--- Typed frames from their slots.
-pub mod Typed
+-- Typed frames.
 pub mod Answer

@@ -4,30 +4,23 @@ ghost use mathlib.Core.Path.{_≡_};
 ghost use Rattle.protocol.specs.Frames.{fieldsOf};
 ghost use Rattle.slots.specs.Flat.{flatFrame};
 ghost use Rattle.slots.specs.Inverse.{SignedFrame};
-use crate::shapes::headed;
-use crate::shapes::number;
-use crate::shapes::number_chunk;
-use crate::shapes::number_list;
-use crate::shapes::number_lists;
-use crate::shapes::number_text;
-use crate::shapes::number_text_list;
-use crate::shapes::number_text_lists;
-use crate::shapes::number_text_nullable;
-use crate::shapes::number_texts;
-use crate::shapes::numbers;
-use crate::shapes::numbers_chunk;
-use crate::shapes::numbers_list;
-use crate::shapes::numbers_nullable;
-use crate::shapes::numbers_nullable_text;
-use crate::shapes::numbers_offset;
-use crate::shapes::numbers_text;
-use crate::shapes::subscribe;
-use crate::shapes::texts_number;
-use crate::shapes::three_numbers;
+use crate::builder::Builder;
+use crate::builder::headed;
+use crate::builder::request;
+use crate::builder::response;
 use protocol::Frame;
 
 pub fn frame_slots(frame: Frame) -> [u64; 24]
     ensures { λ r. ⌜ r ≡ flatFrame (fieldsOf frame) ⌝ }
+    ensures { λ _. ⌜ SignedFrame (fieldsOf frame) ⌝ }
+{
+    let filled = filled(frame);
+    let slots = filled.slots;
+    slots
+}
+
+fn filled(frame: Frame) -> Builder
+    ensures { λ r. ⌜ r .slots ≡ flatFrame (fieldsOf frame) ⌝ }
     ensures { λ _. ⌜ SignedFrame (fieldsOf frame) ⌝ }
 {
     match frame {
@@ -36,39 +29,39 @@ pub fn frame_slots(frame: Frame) -> [u64; 24]
             publisher_id,
             reference,
             stream,
-        } => numbers_nullable_text(
-            0x0001,
-            1,
-            correlation_id as u64,
-            publisher_id as u64,
-            reference,
-            stream,
-        ),
+        } => request(0x0001, correlation_id)
+            .number(publisher_id as u64)
+            .nullable(reference)
+            .place(stream),
         Frame::Publish {
             publisher_id,
             messages,
-        } => number_list(0x0002, 1, publisher_id as u64, messages),
+        } => headed(0x0002, 1).number(publisher_id as u64).list(messages),
         Frame::PublishV2 {
             publisher_id,
             messages,
-        } => number_list(0x0002, 2, publisher_id as u64, messages),
+        } => headed(0x0002, 2).number(publisher_id as u64).list(messages),
         Frame::PublishConfirm {
             publisher_id,
             publishing_ids,
-        } => number_list(0x0003, 1, publisher_id as u64, publishing_ids),
+        } => headed(0x0003, 1)
+            .number(publisher_id as u64)
+            .list(publishing_ids),
         Frame::PublishError {
             publisher_id,
             errors,
-        } => number_list(0x0004, 1, publisher_id as u64, errors),
+        } => headed(0x0004, 1).number(publisher_id as u64).list(errors),
         Frame::QueryPublisher {
             correlation_id,
             reference,
             stream,
-        } => number_texts(0x0005, 1, correlation_id as u64, reference, stream),
+        } => request(0x0005, correlation_id)
+            .place(reference)
+            .place(stream),
         Frame::DeletePublisher {
             correlation_id,
             publisher_id,
-        } => numbers(0x0006, 1, correlation_id as u64, publisher_id as u64),
+        } => request(0x0006, correlation_id).number(publisher_id as u64),
         Frame::Subscribe {
             correlation_id,
             subscription_id,
@@ -76,286 +69,248 @@ pub fn frame_slots(frame: Frame) -> [u64; 24]
             offset,
             credit,
             properties,
-        } => subscribe(
-            0x0007,
-            1,
-            correlation_id as u64,
-            subscription_id as u64,
-            stream,
-            offset,
-            credit as u64,
-            properties,
-        ),
+        } => request(0x0007, correlation_id)
+            .number(subscription_id as u64)
+            .place(stream)
+            .offset(offset)
+            .number(credit as u64)
+            .list(properties),
         Frame::Deliver {
             subscription_id,
             chunk,
-        } => number_chunk(0x0008, 1, subscription_id as u64, chunk),
+        } => headed(0x0008, 1)
+            .number(subscription_id as u64)
+            .chunk(chunk),
         Frame::DeliverV2 {
             subscription_id,
             committed_chunk_id,
             chunk,
-        } => numbers_chunk(0x0008, 2, subscription_id as u64, committed_chunk_id, chunk),
+        } => headed(0x0008, 2)
+            .number(subscription_id as u64)
+            .number(committed_chunk_id)
+            .chunk(chunk),
         Frame::Credit {
             subscription_id,
             credit,
-        } => numbers(0x0009, 1, subscription_id as u64, credit as u64),
+        } => headed(0x0009, 1)
+            .number(subscription_id as u64)
+            .number(credit as u64),
         Frame::StoreOffset {
             reference,
             stream,
             offset,
-        } => texts_number(0x000a, 1, reference, stream, offset),
+        } => headed(0x000a, 1)
+            .place(reference)
+            .place(stream)
+            .number(offset),
         Frame::QueryOffset {
             correlation_id,
             reference,
             stream,
-        } => number_texts(0x000b, 1, correlation_id as u64, reference, stream),
+        } => request(0x000b, correlation_id)
+            .place(reference)
+            .place(stream),
         Frame::Unsubscribe {
             correlation_id,
             subscription_id,
-        } => numbers(0x000c, 1, correlation_id as u64, subscription_id as u64),
+        } => request(0x000c, correlation_id).number(subscription_id as u64),
         Frame::Create {
             correlation_id,
             stream,
             arguments,
-        } => number_text_list(0x000d, 1, correlation_id as u64, stream, arguments),
+        } => request(0x000d, correlation_id)
+            .place(stream)
+            .list(arguments),
         Frame::Delete {
             correlation_id,
             stream,
-        } => number_text(0x000e, 1, correlation_id as u64, stream),
+        } => request(0x000e, correlation_id).place(stream),
         Frame::Metadata {
             correlation_id,
             streams,
-        } => number_list(0x000f, 1, correlation_id as u64, streams),
-        Frame::MetadataUpdate { code, stream } => number_text(0x0010, 1, code as u64, stream),
+        } => request(0x000f, correlation_id).list(streams),
+        Frame::MetadataUpdate { code, stream } => headed(0x0010, 1)
+            .number(code as u64)
+            .place(stream),
         Frame::PeerProperties {
             correlation_id,
             properties,
-        } => number_list(0x0011, 1, correlation_id as u64, properties),
-        Frame::SaslHandshake { correlation_id } => number(0x0012, 1, correlation_id as u64),
+        } => request(0x0011, correlation_id).list(properties),
+        Frame::SaslHandshake { correlation_id } => request(0x0012, correlation_id),
         Frame::SaslAuthenticate {
             correlation_id,
             mechanism,
             opaque,
-        } => number_text_nullable(0x0013, 1, correlation_id as u64, mechanism, opaque),
+        } => request(0x0013, correlation_id)
+            .place(mechanism)
+            .nullable(opaque),
         Frame::Tune {
             frame_max,
             heartbeat,
-        } => numbers(0x0014, 1, frame_max as u64, heartbeat as u64),
+        } => headed(0x0014, 1)
+            .number(frame_max as u64)
+            .number(heartbeat as u64),
         Frame::Open {
             correlation_id,
             virtual_host,
-        } => number_text(0x0015, 1, correlation_id as u64, virtual_host),
+        } => request(0x0015, correlation_id).place(virtual_host),
         Frame::Close {
             correlation_id,
             closing_code,
             closing_reason,
-        } => numbers_text(
-            0x0016,
-            1,
-            correlation_id as u64,
-            closing_code as u64,
-            closing_reason,
-        ),
+        } => request(0x0016, correlation_id)
+            .number(closing_code as u64)
+            .place(closing_reason),
         Frame::Heartbeat => headed(0x0017, 1),
         Frame::Route {
             correlation_id,
             routing_key,
             super_stream,
-        } => number_texts(0x0018, 1, correlation_id as u64, routing_key, super_stream),
+        } => request(0x0018, correlation_id)
+            .place(routing_key)
+            .place(super_stream),
         Frame::Partitions {
             correlation_id,
             super_stream,
-        } => number_text(0x0019, 1, correlation_id as u64, super_stream),
+        } => request(0x0019, correlation_id).place(super_stream),
         Frame::ConsumerUpdate {
             correlation_id,
             subscription_id,
             active,
-        } => three_numbers(
-            0x001a,
-            1,
-            correlation_id as u64,
-            subscription_id as u64,
-            flag(active),
-        ),
+        } => request(0x001a, correlation_id)
+            .number(subscription_id as u64)
+            .number(flag(active)),
         Frame::ExchangeCommandVersions {
             correlation_id,
             commands,
-        } => number_list(0x001b, 1, correlation_id as u64, commands),
+        } => request(0x001b, correlation_id).list(commands),
         Frame::StreamStats {
             correlation_id,
             stream,
-        } => number_text(0x001c, 1, correlation_id as u64, stream),
+        } => request(0x001c, correlation_id).place(stream),
         Frame::CreateSuperStream {
             correlation_id,
             name,
             partitions,
             binding_keys,
             arguments,
-        } => number_text_lists(
-            0x001d,
-            1,
-            correlation_id as u64,
-            name,
-            partitions,
-            binding_keys,
-            arguments,
-        ),
+        } => request(0x001d, correlation_id)
+            .place(name)
+            .list(partitions)
+            .list(binding_keys)
+            .list(arguments),
         Frame::DeleteSuperStream {
             correlation_id,
             name,
-        } => number_text(0x001e, 1, correlation_id as u64, name),
+        } => request(0x001e, correlation_id).place(name),
         Frame::DeclarePublisherResponse {
             correlation_id,
             code,
-        } => numbers(0x8001, 1, correlation_id as u64, code.number as u64),
+        } => response(0x8001, correlation_id, code),
         Frame::QueryPublisherResponse {
             correlation_id,
             code,
             sequence,
-        } => three_numbers(
-            0x8005,
-            1,
-            correlation_id as u64,
-            code.number as u64,
-            sequence,
-        ),
+        } => response(0x8005, correlation_id, code).number(sequence),
         Frame::DeletePublisherResponse {
             correlation_id,
             code,
-        } => numbers(0x8006, 1, correlation_id as u64, code.number as u64),
+        } => response(0x8006, correlation_id, code),
         Frame::SubscribeResponse {
             correlation_id,
             code,
-        } => numbers(0x8007, 1, correlation_id as u64, code.number as u64),
+        } => response(0x8007, correlation_id, code),
         Frame::CreditResponse {
             code,
             subscription_id,
-        } => numbers(0x8009, 1, code.number as u64, subscription_id as u64),
+        } => headed(0x8009, 1)
+            .number(code.number as u64)
+            .number(subscription_id as u64),
         Frame::QueryOffsetResponse {
             correlation_id,
             code,
             offset,
-        } => three_numbers(0x800b, 1, correlation_id as u64, code.number as u64, offset),
+        } => response(0x800b, correlation_id, code).number(offset),
         Frame::UnsubscribeResponse {
             correlation_id,
             code,
-        } => numbers(0x800c, 1, correlation_id as u64, code.number as u64),
+        } => response(0x800c, correlation_id, code),
         Frame::CreateResponse {
             correlation_id,
             code,
-        } => numbers(0x800d, 1, correlation_id as u64, code.number as u64),
+        } => response(0x800d, correlation_id, code),
         Frame::DeleteResponse {
             correlation_id,
             code,
-        } => numbers(0x800e, 1, correlation_id as u64, code.number as u64),
+        } => response(0x800e, correlation_id, code),
         Frame::MetadataResponse {
             correlation_id,
             brokers,
             streams,
-        } => number_lists(0x800f, 1, correlation_id as u64, brokers, streams),
+        } => request(0x800f, correlation_id).list(brokers).list(streams),
         Frame::PeerPropertiesResponse {
             correlation_id,
             code,
             properties,
-        } => numbers_list(
-            0x8011,
-            1,
-            correlation_id as u64,
-            code.number as u64,
-            properties,
-        ),
+        } => response(0x8011, correlation_id, code).list(properties),
         Frame::SaslHandshakeResponse {
             correlation_id,
             code,
             mechanisms,
-        } => numbers_list(
-            0x8012,
-            1,
-            correlation_id as u64,
-            code.number as u64,
-            mechanisms,
-        ),
+        } => response(0x8012, correlation_id, code).list(mechanisms),
         Frame::SaslAuthenticateResponse {
             correlation_id,
             code,
             opaque,
-        } => numbers_nullable(0x8013, 1, correlation_id as u64, code.number as u64, opaque),
+        } => response(0x8013, correlation_id, code).nullable(opaque),
         Frame::TuneResponse {
             frame_max,
             heartbeat,
-        } => numbers(0x8014, 1, frame_max as u64, heartbeat as u64),
+        } => headed(0x8014, 1)
+            .number(frame_max as u64)
+            .number(heartbeat as u64),
         Frame::OpenResponse {
             correlation_id,
             code,
             properties,
-        } => numbers_list(
-            0x8015,
-            1,
-            correlation_id as u64,
-            code.number as u64,
-            properties,
-        ),
+        } => response(0x8015, correlation_id, code).list(properties),
         Frame::CloseResponse {
             correlation_id,
             code,
-        } => numbers(0x8016, 1, correlation_id as u64, code.number as u64),
+        } => response(0x8016, correlation_id, code),
         Frame::RouteResponse {
             correlation_id,
             code,
             streams,
-        } => numbers_list(
-            0x8018,
-            1,
-            correlation_id as u64,
-            code.number as u64,
-            streams,
-        ),
+        } => response(0x8018, correlation_id, code).list(streams),
         Frame::PartitionsResponse {
             correlation_id,
             code,
             streams,
-        } => numbers_list(
-            0x8019,
-            1,
-            correlation_id as u64,
-            code.number as u64,
-            streams,
-        ),
+        } => response(0x8019, correlation_id, code).list(streams),
         Frame::ConsumerUpdateResponse {
             correlation_id,
             code,
             offset,
-        } => numbers_offset(0x801a, 1, correlation_id as u64, code.number as u64, offset),
+        } => response(0x801a, correlation_id, code).offset(offset),
         Frame::ExchangeCommandVersionsResponse {
             correlation_id,
             code,
             commands,
-        } => numbers_list(
-            0x801b,
-            1,
-            correlation_id as u64,
-            code.number as u64,
-            commands,
-        ),
+        } => response(0x801b, correlation_id, code).list(commands),
         Frame::StreamStatsResponse {
             correlation_id,
             code,
             statistics,
-        } => numbers_list(
-            0x801c,
-            1,
-            correlation_id as u64,
-            code.number as u64,
-            statistics,
-        ),
+        } => response(0x801c, correlation_id, code).list(statistics),
         Frame::CreateSuperStreamResponse {
             correlation_id,
             code,
-        } => numbers(0x801d, 1, correlation_id as u64, code.number as u64),
+        } => response(0x801d, correlation_id, code),
         Frame::DeleteSuperStreamResponse {
             correlation_id,
             code,
-        } => numbers(0x801e, 1, correlation_id as u64, code.number as u64),
+        } => response(0x801e, correlation_id, code),
     }
 }
 

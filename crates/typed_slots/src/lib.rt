@@ -1,5 +1,5 @@
 // The slots of a typed frame.
+mod builder;
 mod frame;
-mod shapes;
 
 pub use frame::frame_slots;

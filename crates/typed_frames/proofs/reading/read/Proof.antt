@@ -16,12 +16,7 @@ read-spec =
     (tie.spec
     (λ c κs. search needs)
     (λ c. search needs)
-    (λ c κs.
-    let told = c .before in
-    let read = told .before .before in
-    let known = read .before .before in
-    let bytes : Bytes (now (known .before .args .bytes)) = λ i. omega (arith, known .shared-slice-known .given i) in
-    read-listed _ _ _ _ bytes (sym (told .enum-told .given .1) ∙ read .read .ensures .0) (read .read .ensures .1 .0))
+    (λ c κs. search needs)
     (λ c. search needs)
     (λ c. search needs)
     (λ c.
@@ -29,6 +24,8 @@ read-spec =
     let read = told .before .before in
     let known = read .before .before in
     let bytes : Bytes (now (known .before .args .bytes)) = λ i. omega (arith, known .shared-slice-known .given i) in
-    read-typed _ _ _ _ bytes (sym (told .enum-told .given .1) ∙ read .read .ensures .0) (read .read .ensures .1 .0) _ (c .frame-of .ensures))
+    let frame = sym (told .enum-told .given .1) ∙ read .read .ensures .0 in
+    let slots = read .read .ensures .1 .0 in
+    read-typed _ _ _ _ bytes frame slots _ (c .frame-of .ensures (read-listed _ _ _ _ bytes frame slots)))
     (λ c. short-told _ _ (sym (c .before .needed .given .1) ∙ c .before .before .before .read .ensures .0))
     (λ c. refusal-told _ _ _ (sym (c .before .number .given .1) ∙ c .before .before .before .read .ensures .0)))

@@ -1,0 +1,3 @@
+-- Typed frames from their slots.
+pub mod Taken
+pub mod Typed

@@ -1,0 +1,5 @@
+// The typed frame of slots.
+mod frame;
+mod taker;
+
+pub use frame::frame_of;
