@@ -14,17 +14,13 @@ fn text(content: &mut Vec<u8>, length: usize) {
     content.extend((0..length).map(|i| b'a' + (i % 26) as u8));
 }
 
-fn null(content: &mut Vec<u8>) {
-    content.extend([0xff, 0xff]);
-}
-
 fn count(content: &mut Vec<u8>, elements: u32) {
     content.extend(elements.to_be_bytes());
 }
 
-fn properties(content: &mut Vec<u8>, properties: u32) {
-    count(content, properties);
-    for _ in 0..properties {
+fn properties(content: &mut Vec<u8>, number: u32) {
+    count(content, number);
+    for _ in 0..number {
         text(content, 10);
         text(content, 10);
     }
@@ -38,13 +34,12 @@ pub fn credit() -> Vec<u8> {
     frame(0x09, 1, &[5, 0, 10])
 }
 
-/// With names of 20 bytes, or a null as its reference.
-pub fn declare_publisher(null_reference: bool) -> Vec<u8> {
+/// With a reference of so many bytes, or null.
+pub fn declare_publisher(reference: Option<usize>) -> Vec<u8> {
     let mut content = vec![0, 0, 0, 1, 7];
-    if null_reference {
-        null(&mut content);
-    } else {
-        text(&mut content, 20);
+    match reference {
+        Some(length) => text(&mut content, length),
+        None => content.extend([0xff, 0xff]),
     }
     text(&mut content, 20);
     frame(0x01, 1, &content)
@@ -54,13 +49,12 @@ pub fn declare_publisher(null_reference: bool) -> Vec<u8> {
 pub const OFFSET: &[u8] = &[0, 4, 0, 0, 0, 0, 0, 0, 1, 0];
 pub const NEXT: &[u8] = &[0, 3];
 
-/// With 5 properties.
-pub fn subscribe(specification: &[u8]) -> Vec<u8> {
+pub fn subscribe(specification: &[u8], number: u32) -> Vec<u8> {
     let mut content = vec![0, 0, 0, 1, 7];
     text(&mut content, 20);
     content.extend(specification);
     content.extend([0, 10]);
-    properties(&mut content, 5);
+    properties(&mut content, number);
     frame(0x07, 1, &content)
 }
 
@@ -70,7 +64,7 @@ pub fn peer_properties(number: u32) -> Vec<u8> {
     frame(0x11, 1, &content)
 }
 
-/// Each stream has two replicas.
+/// A stream has two replicas.
 pub fn metadata_response(brokers: u16, streams: u32) -> Vec<u8> {
     let mut content = vec![0, 0, 0, 1];
     count(&mut content, brokers.into());

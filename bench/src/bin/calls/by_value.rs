@@ -1,4 +1,5 @@
-//! The reference as a Rust program calls it, by functions that return what the boundary hands over.
+//! The reference as a Rust program calls it, by functions that return what the boundary hands over. The call that is not inlined
+//! is that of the function here.
 
 use std::hint::black_box;
 
@@ -10,7 +11,7 @@ use crate::sides::{LIMIT, Side};
 #[derive(Clone, Copy)]
 pub struct ByValue;
 
-/// What is returned is not made into an answer of the boundary, which would take time.
+/// What is returned is not made into an answer of the boundary: that would be timed too.
 #[inline(always)]
 fn unseen<T>(returned: &T) -> u64 {
     black_box(returned);

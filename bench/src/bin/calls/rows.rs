@@ -9,7 +9,7 @@ const ID: u8 = 7;
 
 /// Calls, and the memory that they work on.
 pub trait Row: Clone + PartialEq {
-    /// Gives the answer of the last call.
+    /// Gives the answer of the last call, if the side does.
     fn run(&mut self, side: impl Side) -> u64;
 }
 

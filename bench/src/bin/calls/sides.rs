@@ -8,10 +8,11 @@ use boundary::{Boundary, ElementSlots, Frame, Ledger, List, ReaderSlots};
 /// No limit.
 pub const LIMIT: u32 = 0;
 
-/// Functions of the boundary, as they are timed. Each gives its answer.
+/// Functions of the boundary, as they are timed.
 pub trait Side: Copy {
     type Behind: Boundary + Copy;
 
+    /// The same functions, whose answers are always given.
     fn boundary(self) -> Self::Behind;
 
     #[inline(always)]

@@ -2,12 +2,12 @@
 
 use std::process::ExitCode;
 
+use bench::{NEXT, OFFSET};
 use boundary::{Reference, refusal};
 
 use crate::rows::{Grant, LastMessage, OpenAndClose, Read, Receive, Row, Walk, Write};
 use crate::sides::{AtBoundary, Side};
 use crate::times::times;
-use bench::{NEXT, OFFSET};
 
 const ACCEPTED: u8 = 0;
 const FIELD_CUT: u8 = 6;
@@ -22,8 +22,8 @@ struct Table<A, B> {
     largest: Option<(f64, String)>,
 }
 
-/// Prints the times of two sides, under their titles, and their ratio. The program's arguments are parts of the names of the
-/// rows that are wanted.
+/// Prints the times of two sides and their ratio, under three titles, and the largest ratio. The program's arguments are parts
+/// of the names of the rows that are wanted.
 pub fn table(titles: [&str; 3], first: impl Side, second: impl Side) -> ExitCode {
     let wanted = std::env::args().skip(1).collect();
     let mut table = Table { first, second, wanted, largest: None };
@@ -45,21 +45,21 @@ pub fn table(titles: [&str; 3], first: impl Side, second: impl Side) -> ExitCode
 }
 
 impl<A: Side, B: Side> Table<A, B> {
-    /// Frames that are accepted. From Metadata's response on, they have no fast path.
+    /// Frames that are accepted. The last five are rare on a connection.
     fn frames(&mut self) {
         for (name, bytes) in [
             ("Heartbeat", bench::heartbeat()),
             ("Credit", bench::credit()),
-            ("DeclarePublisher, names of 20 bytes", bench::declare_publisher(false)),
-            ("Subscribe, 5 properties", bench::subscribe(OFFSET)),
+            ("DeclarePublisher, names of 20 bytes", bench::declare_publisher(Some(20))),
+            ("Subscribe, 5 properties", bench::subscribe(OFFSET, 5)),
             ("PublishConfirm of 100", bench::publish_confirm(100)),
             ("Publish of 100 x 100 bytes", bench::publish(100, 100)),
             ("Deliver of 1 x 60,000 bytes", bench::deliver(1, 60_000)),
             ("Deliver of 300 x 200 bytes", bench::deliver(300, 200)),
             ("Metadata's response, 3 brokers, 10 streams", bench::metadata_response(3, 10)),
             ("PeerProperties, 5 properties", bench::peer_properties(5)),
-            ("DeclarePublisher, null reference", bench::declare_publisher(true)),
-            ("Subscribe from next, 5 properties", bench::subscribe(NEXT)),
+            ("DeclarePublisher, null reference", bench::declare_publisher(None)),
+            ("Subscribe from next, 5 properties", bench::subscribe(NEXT, 5)),
             ("Deliver of type 1, 4,096 bytes", bench::deliver_unopened(4_096)),
         ] {
             self.row(&format!("read {name}"), ACCEPTED, Read::new(&bytes));
@@ -67,10 +67,11 @@ impl<A: Side, B: Side> Table<A, B> {
         }
     }
 
-    /// Frames that are refused for one byte, counted from their end.
+    /// Frames that are refused for one byte, counted from their end: the last of the last value, and the last of the length
+    /// of the last entry, which becomes 201.
     fn refused(&mut self) {
         for (name, bytes, from_end, byte, refusal) in [
-            ("Subscribe refused in its last property", bench::subscribe(OFFSET), 1, 0xff, NOT_UTF8),
+            ("Subscribe refused in its last property", bench::subscribe(OFFSET, 5), 1, 0xff, NOT_UTF8),
             ("Deliver refused at its last entry", bench::deliver(300, 200), 201, 201, FIELD_CUT),
         ] {
             let mut spoiled = bytes.clone();
@@ -94,13 +95,13 @@ impl<A: Side, B: Side> Table<A, B> {
         self.row("credit ledger: receive a small Deliver", ACCEPTED, Receive::new(&bench::deliver(1, 10)));
     }
 
-    fn row(&mut self, name: &str, refusal: u8, mut row: impl Row) {
+    fn row(&mut self, name: &str, refusal: u8, row: impl Row) {
         if !self.wanted.is_empty() && !self.wanted.iter().any(|part| name.contains(part)) {
             return;
         }
         check(name, refusal, &row, self.first);
         check(name, refusal, &row, self.second);
-        let [first, second, ratio] = times(&mut row, self.first, self.second);
+        let [first, second, ratio] = times(row, self.first, self.second);
         println!("{name:<50} {first:>10.1} {second:>10.1} {ratio:>8.2}");
         if self.largest.as_ref().is_none_or(|(largest, _)| ratio > *largest) {
             self.largest = Some((ratio, name.to_string()));
