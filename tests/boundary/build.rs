@@ -2,7 +2,7 @@
 //! reference is there.
 //!
 //! With the feature `pair`, target/pair/libold.a and libnew.a are linked too. The functions of each begin with its name, and
-//! so that their declarations are written once, a copy of src/archive.rs is made for each.
+//! src/archive.rs, which declares them, is copied for each with such names.
 
 use std::path::{Path, PathBuf};
 use std::{env, fs};
@@ -36,7 +36,7 @@ fn link(folder: &str, name: &str) -> bool {
 /// Writes src/archive.rs for functions that begin with a name.
 fn declare(name: &str) {
     let source = fs::read_to_string("src/archive.rs").expect("src/archive.rs is read");
-    let copy = PathBuf::from(env::var_os("OUT_DIR").expect("cargo sets OUT_DIR")).join(format!("{name}.rs"));
-    fs::write(copy, source.replace("krevilosh_", &format!("{name}_krevilosh_")))
-        .expect("the copy is written");
+    let folder = PathBuf::from(env::var_os("OUT_DIR").expect("cargo sets OUT_DIR"));
+    let copy = source.replace("krevilosh_", &format!("{name}_krevilosh_"));
+    fs::write(folder.join(format!("{name}.rs")), copy).expect("the copy is written");
 }
