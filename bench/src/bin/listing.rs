@@ -17,7 +17,7 @@ fn main() -> ExitCode {
     let bytes = arguments.next().and_then(|number| number.parse().ok()).unwrap_or(1_000_000_000);
     match measure(&program, bytes) {
         Ok(pairs) => {
-            let [listing, wc, ratio] = medians(pairs);
+            let [listing, wc, ratio] = bench::medians(&pairs);
             println!("listing of {bytes} bytes: {listing:.2} s, wc -c: {wc:.2} s, ratio {ratio:.2}");
             ExitCode::SUCCESS
         }
@@ -37,12 +37,6 @@ fn measure(program: &str, bytes: usize) -> io::Result<Vec<(f64, f64)>> {
             Ok((listing, seconds(Command::new("wc").arg("-c"), &deliver, bytes)?))
         })
         .collect()
-}
-
-/// The medians of both, and of the ratio of each pair: what slows the machine for a while slows both of a pair.
-fn medians(pairs: Vec<(f64, f64)>) -> [f64; 3] {
-    [|(listing, _)| listing, |(_, wc)| wc, |(listing, wc)| listing / wc]
-        .map(|of: fn((f64, f64)) -> f64| bench::median(pairs.iter().copied().map(of).collect()))
 }
 
 /// How long a program takes to read so many bytes, in whole frames, from a pipe.

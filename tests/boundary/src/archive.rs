@@ -1,5 +1,3 @@
-//! The library under test, by its C header.
-
 use std::ptr;
 
 use crate::{Boundary, ElementSlots, Frame, Ledger, List, ReaderSlots};
@@ -51,7 +49,8 @@ unsafe extern "C" {
     fn krevilosh_publisher_confirm(ledger: *mut u32, id: u8, n: u32) -> u64;
 }
 
-/// libkrevilosh.a.
+/// The library under test, by its C header.
+#[derive(Clone, Copy)]
 pub struct Archive;
 
 /// An empty slice goes over as a null pointer, which the header admits.

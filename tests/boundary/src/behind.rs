@@ -3,6 +3,7 @@ use reference::{Reason, Refusal, credit, publisher};
 use crate::{Boundary, ElementSlots, Frame, Ledger, List, ReaderSlots};
 
 /// The reference, answering as the C boundary does.
+#[derive(Clone, Copy)]
 pub struct Reference;
 
 /// The answer that says why a call was refused.

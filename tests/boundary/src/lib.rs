@@ -11,6 +11,18 @@ pub use archive::Archive;
 pub use behind::Reference;
 pub use reference::{ElementSlots, Frame, Ledger, ReaderSlots};
 
+/// libold.a.
+#[cfg(feature = "pair")]
+pub mod old {
+    include!(concat!(env!("OUT_DIR"), "/old.rs"));
+}
+
+/// libnew.a.
+#[cfg(feature = "pair")]
+pub mod new {
+    include!(concat!(env!("OUT_DIR"), "/new.rs"));
+}
+
 /// The library under test, if its archive was built before this.
 pub fn archive() -> Option<&'static dyn Boundary> {
     #[cfg(archive)]
@@ -40,7 +52,7 @@ pub trait Boundary {
 }
 
 /// A list as an element question names it.
-#[derive(Clone, Copy, Debug)]
+#[derive(Clone, Copy, Debug, PartialEq)]
 pub struct List {
     pub count: u64,
     pub place: u64,
