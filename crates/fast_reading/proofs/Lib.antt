@@ -1,4 +1,4 @@
 -- What the proofs of several functions use.
 mod Rows
 mod Chunks
-mod Heads
+mod Keys

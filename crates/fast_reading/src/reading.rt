@@ -1,46 +1,19 @@
 // Reading the most frequent frames straight into their slots. Each function here answers whether it has read the frame; where
 // it has not, it has touched no slot, and the general reader is asked, which knows every layout and every refusal.
 ghost use Rattle.protocol.specs.Decision.{decide};
-ghost use Rattle.rules.specs.Reading.{readFrame, readDecided};
+ghost use Rattle.rules.specs.Reading.{readDecided};
 ghost use Rattle.fast_reading.specs.Answer.{ReadsAs};
 use crate::connection::heartbeat;
 use crate::connection::open;
 use crate::consuming::credit;
 use crate::consuming::deliver;
 use crate::consuming::subscribe;
-use crate::number;
 use crate::publishing::declare_publisher;
 use crate::publishing::publish;
 use crate::publishing::publish_confirm;
-use wire::Width;
 
-// The frame at the start of the bytes, under a frame limit; 0 is no limit.
-pub fn read(bytes: &[u8], limit: u32, slots: &mut [u64; 24]) -> bool
-    ensures { λ r. ⌜ ReadsAs (readFrame (now (bytes .entry)) limit) (now (slots .entry)) r (now (slots .exit)) ⌝ }
-{
-    if bytes.len() < 8 {
-        return false;
-    }
-    let size = number(bytes, 0, Width::Four);
-    if limit != 0 {
-        if (limit as u64) < size {
-            return false;
-        }
-    }
-    if size < 4 {
-        return false;
-    }
-    let end = size as usize + 4;
-    if bytes.len() < end {
-        return false;
-    }
-    let key = number(bytes, 4, Width::Two);
-    let version = number(bytes, 6, Width::Two);
-    content(&bytes[8..end], key, version, slots)
-}
-
-// By the key; every version but 1 is left to the general reader, but for Deliver's.
-fn content(s: &[u8], key: u64, version: u64, slots: &mut [u64; 24]) -> bool
+// A content by its key; every version but 1 is left to the general reader, but for Deliver's.
+pub fn read(s: &[u8], key: u64, version: u64, slots: &mut [u64; 24]) -> bool
     ensures { λ r. ⌜ ReadsAs (readDecided (decide key version) (now (s .entry))) (now (slots .entry)) r (now (slots .exit)) ⌝ }
 {
     if key == 0x0008 {

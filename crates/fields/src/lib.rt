@@ -3,7 +3,6 @@
 
 mod cursor;
 mod ends;
-mod limit;
 mod number;
 mod offset;
 mod source;
@@ -15,7 +14,6 @@ pub use cursor::Cursor;
 pub use ends::bytes_end;
 pub use ends::reference_end;
 pub use ends::text_end;
-pub use limit::over_limit;
 pub use number::ReadI64;
 pub use number::ReadNumber;
 pub use number::ReadU16;

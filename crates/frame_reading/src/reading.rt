@@ -1,20 +1,16 @@
 // Reading a frame into its slots.
 ghost use mathlib.Core.Path.{_≡_};
-ghost use Prim.Native.Nat.{_<_};
 ghost use Rattle.protocol.specs.Decision.{decide};
 ghost use Rattle.protocol.specs.Layouts.{rowFrom};
 ghost use Rattle.protocol.specs.Table.{rowOf};
 ghost use Rattle.rules.specs.Answers.{readingRefusal};
-ghost use Rattle.rules.specs.Reading.{readFrame, readDecided, readLayout, readSized};
+ghost use Rattle.rules.specs.Reading.{readFrame, readDecided, readLayout};
 ghost use Rattle.slots.specs.Flat.{slotsAfter};
 ghost use Rattle.frame_reading.specs.Answer.{told, refusalOf};
-use fields::Cursor;
-use fields::over_limit;
-use fields::u16_field;
+use frame_head::head_of;
+use frame_head::over_limit;
 use protocol::Decided;
 use protocol::refusal;
-use wire::Number;
-use wire::Width;
 
 pub enum FrameRead {
     // The slots are the frame's.
@@ -25,36 +21,18 @@ pub enum FrameRead {
     Refused { number: u8, place: usize },
 }
 
-// The frame at the start of the bytes, under a frame limit; 0 is no limit. Only a frame that is read changes the slots.
-// What the fast reader leaves, the reader that knows every layout and every refusal reads.
+// The frame at the start of the bytes, under a frame limit; 0 is no limit. Only a frame that is read changes the slots. Four
+// bytes present (1), Size above the limit (2), below 4 (3), whole frame present (1), then what key and version say.
 pub fn read(bytes: &[u8], limit: u32, slots: &mut [u64; 24]) -> FrameRead
     ensures { λ r. ⌜ r ≡ told (readFrame (now (bytes .entry)) limit) ⌝ }
     ensures { λ _. ⌜ now (slots .exit) ≡ slotsAfter (now (slots .entry)) (readFrame (now (bytes .entry)) limit) ⌝ }
     ensures { λ r. ⌜ refusalOf r ≡ readingRefusal (readFrame (now (bytes .entry)) limit) ⌝ }
 {
-    if fast_reading::read(bytes, limit, slots) {
-        return FrameRead::Frame;
+    if bytes.len() < 4 {
+        return FrameRead::Short { needed: 4 };
     }
-    read_any(bytes, limit, slots)
-}
-
-// First: four bytes present (1).
-fn read_any(bytes: &[u8], limit: u32, slots: &mut [u64; 24]) -> FrameRead
-    ensures { λ r. ⌜ r ≡ told (readFrame (now (bytes .entry)) limit) ⌝ }
-    ensures { λ _. ⌜ now (slots .exit) ≡ slotsAfter (now (slots .entry)) (readFrame (now (bytes .entry)) limit) ⌝ }
-{
-    match wire::number_at(bytes, 0, Width::Four) {
-        Number::Value(size) => read_sized(bytes, limit, size, slots),
-        Number::Cut => FrameRead::Short { needed: 4 },
-    }
-}
-
-// Size above the limit (2), below 4 (3), whole frame present (1), then what key and version say.
-fn read_sized(bytes: &[u8], limit: u32, size: u64, slots: &mut [u64; 24]) -> FrameRead
-    requires { ⌜ size < 0x1_0000_0000 ⌝ }
-    ensures { λ r. ⌜ r ≡ told (readSized (now (bytes .entry)) limit size) ⌝ }
-    ensures { λ _. ⌜ now (slots .exit) ≡ slotsAfter (now (slots .entry)) (readSized (now (bytes .entry)) limit size) ⌝ }
-{
+    let head = head_of(bytes);
+    let size = head.size as u64;
     if over_limit(limit, size) {
         return refused(refusal::FRAME_TOO_LARGE, 0);
     }
@@ -65,9 +43,18 @@ fn read_sized(bytes: &[u8], limit: u32, size: u64, slots: &mut [u64; 24]) -> Fra
     if bytes.len() < end {
         return FrameRead::Short { needed: size + 4 };
     }
-    let key = u16_field(bytes, Cursor::within(4));
-    let version = u16_field(bytes, Cursor::within(6));
-    read_decided(&bytes[8..end], key.value, version.value, slots)
+    read_whole(&bytes[8..end], head.key, head.version, slots)
+}
+
+// What the fast reader leaves, the reader that knows every layout and every refusal reads.
+fn read_whole(s: &[u8], key: u16, version: u16, slots: &mut [u64; 24]) -> FrameRead
+    ensures { λ r. ⌜ r ≡ told (readDecided (decide key version) (now (s .entry))) ⌝ }
+    ensures { λ _. ⌜ now (slots .exit) ≡ slotsAfter (now (slots .entry)) (readDecided (decide key version) (now (s .entry))) ⌝ }
+{
+    if fast_reading::read(s, key as u64, version as u64, slots) {
+        return FrameRead::Frame;
+    }
+    read_decided(s, key, version, slots)
 }
 
 // Key (4), version (5), then the content.

@@ -18,7 +18,7 @@ use Rattle.chunks.specs.declared.entry.Stop.{Stop}
 use Rattle.chunks.proofs.Chunks.{Whole, whole}
 use Rattle.fast_reading.specs.Chunk.{chunkAt}
 use Rattle.fast_reading.proofs.Chunks.{header-slots}
-use Rattle.fast_reading.proofs.Heads.{by-key}
+use Rattle.fast_reading.proofs.Keys.{by-key}
 use Rattle.fast_reading.proofs.Rows.{reads, done, link, below, unsigned-read}
 use borrow.Author.Needs.{needs}
 use Rattle.fast_reading.proofs.consuming.deliver.Statement.{statement}

@@ -1,7 +1,7 @@
 -- By whether there is a limit.
 use borrow.Author.Tests.{eq-eqb, ne-eqb}
-use Rattle.fields.proofs.limit.over_limit.Statement.{statement}
-use Rattle.fields.proofs.limit.over_limit.Tie as tie
+use Rattle.frame_head.proofs.size.over_limit.Statement.{statement}
+use Rattle.frame_head.proofs.size.over_limit.Tie as tie
 
 pub over-limit-spec : {M : Type 1} → statement M
 over-limit-spec =
