@@ -16,7 +16,7 @@ use Rattle.rules.specs.Writing.{Encoding, wrote, writeEncoded}
 use Rattle.rules.specs.Writing as rules
 use Rattle.protocol.specs.Fields.{place}
 use Rattle.fields.specs.Writer.{behind, copiedBehind}
-use Rattle.fast_writing.specs.Checks.{Fits}
+use Rattle.frame_head.specs.Size.{Fits}
 use Rattle.fast_writing.specs.Puts.{halves}
 
 -- What pieces make together.

@@ -1,14 +1,14 @@
 // Subscribe, Credit and Deliver.
 ghost use mathlib.Core.List.{[]};
 ghost use Rattle.fast_writing.specs.Answer.{WritesAs, writeRowOf};
-use crate::checks::fits;
 use crate::checks::is_part;
 use crate::puts::put_eight;
-use crate::puts::put_head;
 use crate::puts::put_text;
 use crate::writing::Fast;
 use fields::is_number;
 use fields::is_string;
+use frame_head::fits;
+use frame_head::put_head;
 use lists::properties_end;
 use protocol::Form;
 use slot_fields::chunk_refusal;
@@ -61,7 +61,7 @@ pub fn subscribe(slots: &[u64; 24], src: &[u8], limit: u32, out: &mut [u8]) -> F
     if !fits(limit, size, out.len()) {
         return Fast::Unwritten;
     }
-    let next = put_head(out, size, 0x0007);
+    let next = put_head(out, size, 0x0007, 1);
     let next = wire::put_number(out, next, Width::Four, correlation_id);
     let next = wire::put_number(out, next, Width::One, subscription_id);
     let next = put_text(out, next, src, stream, stream_len);
@@ -88,7 +88,7 @@ pub fn credit(slots: &[u64; 24], limit: u32, out: &mut [u8]) -> Fast
     if !fits(limit, 7, out.len()) {
         return Fast::Unwritten;
     }
-    let next = put_head(out, 7, 0x0009);
+    let next = put_head(out, 7, 0x0009, 1);
     let next = wire::put_number(out, next, Width::One, subscription_id);
     wire::put_number(out, next, Width::Two, credit);
     Fast::Length(11)
@@ -110,7 +110,7 @@ pub fn deliver(slots: &[u64; 24], src: &[u8], limit: u32, out: &mut [u8]) -> Fas
     if !fits(limit, size, out.len()) {
         return Fast::Unwritten;
     }
-    let next = put_head(out, size, 0x0008);
+    let next = put_head(out, size, 0x0008, 1);
     let next = wire::put_number(out, next, Width::One, subscription_id);
     put_chunk(out, next, src, slots, 3);
     Fast::Length(size as u64 + 4)

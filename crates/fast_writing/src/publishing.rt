@@ -1,12 +1,12 @@
 // What publishers send, and what confirms it.
 ghost use Rattle.fast_writing.specs.Answer.{WritesAs, writeRowOf};
-use crate::checks::fits;
 use crate::checks::is_part;
-use crate::puts::put_head;
 use crate::puts::put_text;
 use crate::writing::Fast;
 use fields::is_number;
 use fields::is_string;
+use frame_head::fits;
+use frame_head::put_head;
 use lists::messages_end;
 use protocol::Form;
 use wire::Width;
@@ -37,7 +37,7 @@ pub fn declare_publisher(slots: &[u64; 24], src: &[u8], limit: u32, out: &mut [u
     if !fits(limit, size, out.len()) {
         return Fast::Unwritten;
     }
-    let next = put_head(out, size, 0x0001);
+    let next = put_head(out, size, 0x0001, 1);
     let next = wire::put_number(out, next, Width::Four, correlation_id);
     let next = wire::put_number(out, next, Width::One, publisher_id);
     let next = put_text(out, next, src, reference, reference_len);
@@ -74,7 +74,7 @@ pub fn publish(slots: &[u64; 24], src: &[u8], limit: u32, out: &mut [u8]) -> Fas
     if !fits(limit, size, out.len()) {
         return Fast::Unwritten;
     }
-    let next = put_head(out, size, 0x0002);
+    let next = put_head(out, size, 0x0002, 1);
     let next = wire::put_number(out, next, Width::One, publisher_id);
     let next = wire::put_number(out, next, Width::Four, count as u64);
     wire::put_bytes(out, next, src, at, len);
@@ -105,7 +105,7 @@ pub fn publish_confirm(slots: &[u64; 24], src: &[u8], limit: u32, out: &mut [u8]
     if !fits(limit, size, out.len()) {
         return Fast::Unwritten;
     }
-    let next = put_head(out, size, 0x0003);
+    let next = put_head(out, size, 0x0003, 1);
     let next = wire::put_number(out, next, Width::One, publisher_id);
     let next = wire::put_number(out, next, Width::Four, count as u64);
     wire::put_bytes(out, next, src, at, len);

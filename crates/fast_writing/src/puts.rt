@@ -8,15 +8,6 @@ ghost use Rattle.fields.specs.Writer.{behind, copiedBehind};
 ghost use Rattle.fast_writing.specs.Puts.{halves};
 use wire::Width;
 
-// Size, key and version 1, at the start.
-pub fn put_head(out: &mut [u8], size: usize, key: u64) -> usize
-    ensures { λ r. ⌜ holds (now (out .exit)) r ≡ behind (digits 2 1) (behind (digits 2 key) (behind (digits 4 size) (holds (now (out .entry)) 0))) ⌝ }
-{
-    let next = wire::put_number(out, 0, Width::Four, size as u64);
-    let next = wire::put_number(out, next, Width::Two, key);
-    wire::put_number(out, next, Width::Two, 1)
-}
-
 // The length in two bytes, then the text.
 pub fn put_text(out: &mut [u8], at: usize, src: &[u8], from: usize, len: usize) -> usize
     ensures { λ r. ⌜ holds (now (out .exit)) r ≡ copiedBehind (now (src .entry)) (place from len) (behind (digits 2 len) (holds (now (out .entry)) at)) ⌝ }

@@ -4,14 +4,14 @@
 ghost use mathlib.Core.List.{[]};
 ghost use Rattle.slots.specs.Unflat.{writeFlat};
 ghost use Rattle.fast_writing.specs.Answer.{WritesAs, writeRowOf};
-use crate::checks::fits;
 use crate::consuming::credit;
 use crate::consuming::deliver;
 use crate::consuming::subscribe;
 use crate::publishing::declare_publisher;
 use crate::publishing::publish;
 use crate::publishing::publish_confirm;
-use crate::puts::put_head;
+use frame_head::fits;
+use frame_head::put_head;
 
 pub enum Fast {
     // The frame's length.
@@ -45,6 +45,6 @@ fn heartbeat(limit: u32, out: &mut [u8]) -> Fast
     if !fits(limit, 4, out.len()) {
         return Fast::Unwritten;
     }
-    put_head(out, 4, 0x0017);
+    put_head(out, 4, 0x0017, 1);
     Fast::Length(8)
 }

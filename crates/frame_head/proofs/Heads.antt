@@ -7,12 +7,12 @@ use Prim.Native.Nat.{ℕ, _+_, _^_, _<_, _≤_}
 use native.Mathlib.Omega.{arith}
 use lib.Dec.{leb, ltb}
 use lib.ListN.{length}
-use borrow.Author.Tests.{ltb-false}
+use borrow.Author.Tests.{ltb-false, le-ltb}
 use Rattle.wire.specs.Integers.{Bytes, bigEndian, numberOrZero}
 use Rattle.wire.proofs.Widths.{integers, positive, or-zero}
 use Rattle.rules.specs.Reading.{overLimit}
 use Rattle.frame_head.specs.Head.{headOf}
-use Rattle.frame_head.specs.Size.{sizeRefusal}
+use Rattle.frame_head.specs.Size.{Fits, sizeRefusal}
 use Rattle.frame_head.specs.declared.head.Head.{Head}
 
 pub zero-below : (n : ℕ) (s : List ℕ) (at v : ℕ) → Bytes s → v ≡ numberOrZero n s at → v < 256 ^ n
@@ -36,12 +36,6 @@ module _ (s : List ℕ) (h : Head) (e : h ≡ headOf s) where
   unfolding headOf
   version-there l = ap (λ (x : Head). x .version) e ∙ or-zero 2 s 6 l
 
--- A Size that is not refused.
-pub record Fits (limit size room : ℕ) : Type 0 where
-  pub bound : size ≤ 0xffff_ffff
-  pub limited : overLimit limit size ≡ false
-  pub roomy : size + 4 ≤ room
-
 pub fits : (limit size room : ℕ) → sizeRefusal limit size room ≡ 0 → Fits limit size room
 unfolding sizeRefusal
 fits limit size room e = by (ltb 0xffff_ffff size) refl (overLimit limit size) refl (ltb room (size + 4)) refl e
@@ -51,3 +45,7 @@ fits limit size room e = by (ltb 0xffff_ffff size) refl (overLimit limit size) r
     by false i false j true k e = absurd (omega (arith, e))
     by false i true j c k e = absurd (omega (arith, e))
     by true i b j c k e = absurd (omega (arith, e))
+
+pub not-refused : (limit size room : ℕ) → Fits limit size room → sizeRefusal limit size room ≡ 0
+unfolding sizeRefusal
+not-refused limit size room h = rw (le-ltb _ _ (h .bound), h .limited, le-ltb _ _ (h .roomy))

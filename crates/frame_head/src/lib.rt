@@ -5,5 +5,6 @@ mod size;
 pub use head::Head;
 pub use head::head_of;
 pub use head::put_head;
+pub use size::fits;
 pub use size::over_limit;
 pub use size::size_refusal;

@@ -1,7 +1,9 @@
 // What Size may be.
+ghost use mathlib.Core.Bool.{true};
+ghost use mathlib.Core.Logic.{_↔_};
 ghost use mathlib.Core.Path.{_≡_};
 ghost use Rattle.rules.specs.Reading.{overLimit};
-ghost use Rattle.frame_head.specs.Size.{sizeRefusal};
+ghost use Rattle.frame_head.specs.Size.{Fits, sizeRefusal};
 use protocol::refusal;
 
 // Whether Size is above the limit; 0 is no limit.
@@ -29,4 +31,11 @@ pub fn size_refusal(limit: u32, size: usize, room: usize) -> u8
         return refusal::NO_ROOM;
     }
     0
+}
+
+// Whether it is written.
+pub fn fits(limit: u32, size: usize, room: usize) -> bool
+    ensures { λ r. ⌜ (r ≡ true) ↔ Fits limit size room ⌝ }
+{
+    size_refusal(limit, size, room) == 0
 }

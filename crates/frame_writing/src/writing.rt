@@ -11,7 +11,7 @@ ghost use Rattle.frame_writing.specs.Written.{writingOf, stepFrame};
 use crate::head::write_head;
 use fast_writing::Fast;
 use fields::Writer;
-use fields::over_limit;
+use frame_head::size_refusal;
 use protocol::Decided;
 use protocol::Picked;
 use protocol::refusal;
@@ -78,14 +78,9 @@ fn write_layout(slots: &[u64], src: &[u8], limit: u32, out: &mut [u8], fields: [
         return Written::Refused(number);
     }
     let size = measured.at;
-    if 0xffff_ffff < size {
-        return Written::Refused(refusal::FRAME_TOO_LARGE);
-    }
-    if over_limit(limit, size as u64) {
-        return Written::Refused(refusal::FRAME_TOO_LARGE);
-    }
-    if out.len() < size + 4 {
-        return Written::Refused(refusal::NO_ROOM);
+    let number = size_refusal(limit, size, out.len());
+    if number != 0 {
+        return Written::Refused(number);
     }
     let next = wire::put_number(out, 0, Width::Four, size as u64);
     behind_size(Writer::at_place(next), src, out, slots, fields);
