@@ -1,5 +1,6 @@
 -- Each answer of reading into slots is told of one kind of reading only. Assumes nothing.
 use mathlib.Core.Path.{_≡_, refl, ap, _∙_}
+use mathlib.Core.Bool.{Bool, true, false, true≢false, false≢true}
 use mathlib.Core.List.{List}
 use Prim.Native.Nat.{ℕ}
 use native.Mathlib.Omega.{arith}
@@ -8,9 +9,11 @@ use Rattle.protocol.specs.declared.place.Place.{Place}
 use Rattle.rules.specs.Answers.{readingRefusal}
 use Rattle.rules.specs.Reading.{Reading, frame, short, refusal}
 use Rattle.slots.specs.Flat.{flatFrame, slotsAfter}
+use Rattle.fast_reading.specs.Answer.{ReadsAs}
 use Rattle.frame_reading.specs.Answer.{told, refusalOf}
 use Rattle.frame_reading.specs.declared.reading.FrameRead.{FrameRead}
 use Rattle.frame_reading.specs.declared.reading.FrameRead.the-variants.{Frame, Short, Refused}
+use Rattle.frame_reading.proofs.Contents.{Answers}
 
 pub short-told : (r : Reading) (n : ℕ) → Short n ≡ told r → short n ≡ r
 short-told (frame f) n e = absurd (let o : _≡_ {A = ℕ} 0 1 = cc in omega arith)
@@ -39,3 +42,20 @@ refused-as-read r x e = ap refusalOf e ∙ by x
     by (frame f) = refl
     by (short n) = refl
     by (refusal n place) = refl
+
+-- The answer, the slots afterwards, and the refusal that the answer is.
+pub all-told : (reading : Reading) (old : List ℕ) (r : FrameRead) (new : List ℕ) → Answers reading old r new → (r ≡ told reading) × ((new ≡ slotsAfter old reading) × (refusalOf r ≡ readingRefusal reading))
+all-told reading old r new a = (a .0, (a .1, refused-as-read r reading (a .0)))
+
+-- What the fast reader has read, and what it leaves.
+pub has-read : (reading : Reading) (old : List ℕ) (t : Bool) (new : List ℕ) → ReadsAs reading old t new → t ≡ true → Answers reading old Frame new
+has-read (frame f) old true new h e = (refl, h)
+has-read (short needed) old true new h e = absurd h
+has-read (refusal n place) old true new h e = absurd h
+has-read reading old false new h e = absurd (false≢true e)
+
+pub has-left : (reading : Reading) (old : List ℕ) (t : Bool) (new : List ℕ) (r : FrameRead) (last : List ℕ) → ReadsAs reading old t new → t ≡ false → Answers reading new r last → Answers reading old r last
+has-left (frame f) old false new r last h e a = a
+has-left (short needed) old false new r last h e a = (a .0, a .1 ∙ h)
+has-left (refusal n place) old false new r last h e a = (a .0, a .1 ∙ h)
+has-left reading old true new r last h e a = absurd (true≢false e)
