@@ -1,13 +1,13 @@
 -- A frame is written as the definition says: the first pass tells the encoding's refusal or its length, up to a bound
 -- above any Size; and the second pass, which has room, puts the encoding behind Size. Assumes nothing.
 use mathlib.Core.Path.{_≡_, refl, _∙_, sym, ap, subst}
-use mathlib.Core.Bool.{Bool, true, false, cond}
+use mathlib.Core.Bool.{Bool, true, false, cond, _||_}
 use mathlib.Core.List.{List, [], _∷_, _++_, append-assoc}
 use Prim.Native.Nat.{ℕ, _+_, _<_, _≤_}
 use native.Mathlib.Omega.{arith}
 use lib.Dec.{ltb}
 use lib.ListN.{length, length-append}
-use borrow.Author.Tests.{lt-ltb, le-ltb, ltb-true}
+use borrow.Author.Tests.{lt-ltb, le-ltb, ltb-true, ltb-false}
 use Rattle.wire.specs.Buffer.{Holds, holds, splice, put}
 use Rattle.wire.specs.Integers.{digits}
 use Rattle.wire.proofs.Splice.{length-splice, splice-splice, put-fits}
@@ -22,6 +22,7 @@ use Rattle.rules.specs.Writing.{Encoding, wrote, refuse, followed, writeRow, un
 use Rattle.rules.specs.Writing as rules
 use Rattle.fields.specs.Writer.{writer, bound, capped, State, state, behind}
 use Rattle.fields.specs.declared.writer.Writer.{Writer}
+use Rattle.frame_head.specs.Size.{sizeRefusal}
 use Rattle.frame_writing.specs.Content.{stepHead, stepLayout}
 use Rattle.frame_writing.specs.Written.{stepFrame}
 use Rattle.frame_writing.proofs.Passes.{Lawful, Measured, bytesOf, both, one}
@@ -108,7 +109,7 @@ module _ (f : Fields Place) (src : List ℕ) (limit : ℕ) (out : List ℕ) (lis
       encoded : writeFrame f src limit out ≡ writeEncoded (f .key) (f .version) (wrote (s .content)) limit out
       encoded = decided ∙ ap (λ (e : Encoding). writeEncoded (f .key) (f .version) e limit out) (s .is)
 
-      pub size-over : 0xffff_ffff < w .at → unwritten frameTooLarge o ≡ writeFrame f src limit out
+      size-over : 0xffff_ffff < w .at → unwritten frameTooLarge o ≡ writeFrame f src limit out
       size-over h =
           let k : 0xffff_ffff < 4 + length (s .content) = omega (arith, h, s .size, capped-least (4 + length (s .content))) in
           rw (encoded, s .same, lt-ltb 0xffff_ffff (4 + length (s .content)) k)
@@ -120,7 +121,7 @@ module _ (f : Fields Place) (src : List ℕ) (limit : ℕ) (out : List ℕ) (lis
         fits : 4 + length (s .content) ≤ 0xffff_ffff
         fits = rw (← exact) h
 
-        pub limit-over : overLimit limit (w .at) ≡ true → unwritten frameTooLarge o ≡ writeFrame f src limit out
+        limit-over : overLimit limit (w .at) ≡ true → unwritten frameTooLarge o ≡ writeFrame f src limit out
         limit-over l =
             let k : overLimit limit (4 + length (s .content)) ≡ true = rw exact at l in
             rw (encoded, s .same, le-ltb 0xffff_ffff (4 + length (s .content)) fits, k)
@@ -129,7 +130,7 @@ module _ (f : Fields Place) (src : List ℕ) (limit : ℕ) (out : List ℕ) (lis
           within : overLimit limit (4 + length (s .content)) ≡ false
           within = rw exact at l
 
-          pub no-room : length o < w .at + 4 → unwritten noRoom o ≡ writeFrame f src limit out
+          no-room : length o < w .at + 4 → unwritten noRoom o ≡ writeFrame f src limit out
           no-room r =
               let k : length out < 8 + length (s .content) = omega (arith, r, exact, ap length (s .same)) in
               rw (encoded, s .same, le-ltb 0xffff_ffff (4 + length (s .content)) fits, within, lt-ltb (length out) (8 + length (s .content)) k)
@@ -174,3 +175,13 @@ module _ (f : Fields Place) (src : List ℕ) (limit : ℕ) (out : List ℕ) (lis
             frame-put =
                 let k : w .at + 4 ≡ 8 + length (s .content) = omega (arith, exact) in
                 rw (encoded, le-ltb 0xffff_ffff (4 + length (s .content)) fits, within, le-ltb (length out) (8 + length (s .content)) wide, all-bytes, k)
+
+      pub size-refused : (n : ℕ) → n ≡ sizeRefusal limit (w .at) (length o) → (n ≡ 0 → ⊥) → unwritten n o ≡ writeFrame f src limit out
+      unfolding sizeRefusal
+      size-refused n e z = by (ltb 0xffff_ffff (w .at)) refl (overLimit limit (w .at)) refl (ltb (length o) (w .at + 4)) refl e
+        where
+          by : (a : Bool) → ltb 0xffff_ffff (w .at) ≡ a → (b : Bool) → overLimit limit (w .at) ≡ b → (c : Bool) → ltb (length o) (w .at + 4) ≡ c → n ≡ cond (a || b) frameTooLarge (cond c noRoom 0) → unwritten n o ≡ writeFrame f src limit out
+          by true i b j c k m = rw m (size-over (ltb-true _ _ i))
+          by false i true j c k m = rw m (limit-over (ltb-false _ _ i) j)
+          by false i false j true k m = rw m (no-room (ltb-false _ _ i) j (ltb-true _ _ k))
+          by false i false j false k m = absurd (z m)
