@@ -4,8 +4,7 @@ ghost use Rattle.rules.specs.Reading.{readFrame};
 ghost use Rattle.slots.specs.Flat.{slotsAfter};
 ghost use Rattle.captures.specs.Answer.{told};
 ghost use Rattle.captures.specs.Following.{following};
-use fields::Cursor;
-use fields::u32_field;
+use frame_head::head_of;
 use frame_reading::FrameRead;
 
 pub enum Next {
@@ -34,9 +33,9 @@ pub fn next_frame(rest: &[u8], ended: bool, limit: u32, slots: &mut [u64; 24]) -
     }
     match frame_reading::read(rest, limit, slots) {
         FrameRead::Frame => {
-            let size = u32_field(rest, Cursor::within(0));
+            let head = head_of(rest);
             Next::Frame {
-                length: size.value as u64 + 4,
+                length: head.size as u64 + 4,
             }
         }
         FrameRead::Short { needed } => {

@@ -1,6 +1,6 @@
 -- What the first bytes of a frame tell of its subscription. A frame's key is the two bytes at 4; under key 8 the content
 -- begins with a number of one byte, and the content begins at 8. So the id is that byte. Assumes nothing.
-use Prim.Native.Nat.{ℕ, _+_, _-_, _*_, _≤_, _<_}
+use Prim.Native.Nat.{ℕ, _+_, _-_, _≤_, _<_}
 use mathlib.Core.Path.{_≡_, refl, sym, ap, ap₂, subst, _∙_}
 use mathlib.Core.Bool.{Bool, true, false, cond, _&&_}
 use mathlib.Core.List.{List, map}
@@ -29,14 +29,10 @@ use Rattle.credit_receiving.specs.Subscription.{addressed}
 -- ---- The bytes at 4 and 8
 
 module _ (s : List ℕ) where
-  key-bytes : bigEndian 2 s 4 ≡ getD s 4 0 * 256 + getD s 5 0
-  unfolding bigEndian
-  key-bytes = omega arith
-
   pub too-short : length s < 9 → none ≡ addressed s
   too-short h = rw (le-ltb 8 (length s) (omega (arith, h)))
 
-  other-key : (bigEndian 2 s 4 ≡ 8 → ⊥) → none ≡ addressed s
+  pub other-key : (bigEndian 2 s 4 ≡ 8 → ⊥) → none ≡ addressed s
   other-key h = by (ltb 8 (length s)) (eqb (bigEndian 2 s 4) 8) (ne-eqb (bigEndian 2 s 4) 8 h)
     where
       by : (t u : Bool) → u ≡ false → none ≡ cond (t && u) (some (getD s 8 0)) none
@@ -44,17 +40,8 @@ module _ (s : List ℕ) where
       by true false e = refl
       by false u e = refl
 
-  pub high-byte : (getD s 4 0 ≡ 0 → ⊥) → none ≡ addressed s
-  high-byte h = other-key (λ e. h (omega (arith, e, key-bytes)))
-
-  pub low-byte : getD s 4 0 ≡ 0 → (getD s 5 0 ≡ 8 → ⊥) → none ≡ addressed s
-  low-byte z h = other-key (λ e. h (omega (arith, e, key-bytes, z)))
-
-  this-key : 8 < length s → bigEndian 2 s 4 ≡ 8 → some (getD s 8 0) ≡ addressed s
+  pub this-key : 8 < length s → bigEndian 2 s 4 ≡ 8 → some (getD s 8 0) ≡ addressed s
   this-key l e = rw (lt-ltb 8 (length s) l, eq-eqb (bigEndian 2 s 4) 8 e)
-
-  pub deliver-key : 9 ≤ length s → getD s 4 0 ≡ 0 → getD s 5 0 ≡ 8 → some (getD s 8 0) ≡ addressed s
-  deliver-key l h k = this-key l (omega (arith, key-bytes, h, k))
 
 -- ---- A content under key 8
 

@@ -2,6 +2,7 @@
 ghost use mathlib.Core.Path.{_≡_};
 ghost use Rattle.ledger.specs.Answers.{numberOf};
 ghost use Rattle.credit_receiving.specs.Subscription.{idOf, addressed, refusalFor, affords, spent};
+use frame_head::head_of;
 use ledger::Change;
 use protocol::refusal;
 
@@ -19,10 +20,8 @@ pub fn subscription_of(bytes: &[u8]) -> Subscription
     if bytes.len() < 9 {
         return Subscription::Nothing;
     }
-    if bytes[4] != 0 {
-        return Subscription::Nothing;
-    }
-    if bytes[5] != 8 {
+    let head = head_of(bytes);
+    if head.key != 8 {
         return Subscription::Nothing;
     }
     Subscription::Id(bytes[8])

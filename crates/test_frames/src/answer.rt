@@ -7,7 +7,6 @@ ghost use Rattle.rules.specs.Exactness.{frameLength};
 ghost use Rattle.rules.specs.Reading.{readFrame};
 ghost use Rattle.test_frames.specs.Answers.{used, needs, cutsNeeding};
 use crate::text;
-use fields::Cursor;
 use frame_reading::FrameRead;
 
 pub fn run(name: &[u8], limit: u32, bytes: &[u8]) {
@@ -91,8 +90,8 @@ fn total(frame: &[u8]) -> u64
     requires { ⌜ 4 ≤ length (now frame) ⌝ }
     ensures { λ r. ⌜ r ≡ frameLength (now (frame .entry)) ⌝ }
 {
-    let size = fields::u32_field(frame, Cursor::within(0));
-    size.value as u64 + 4
+    let head = frame_head::head_of(frame);
+    head.size as u64 + 4
 }
 
 // How many of the cuts below 4 bytes need 4, and how many of all cuts need the whole frame.

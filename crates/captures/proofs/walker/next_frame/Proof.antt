@@ -1,10 +1,7 @@
 -- By what is there, and what reading says of it.
 use mathlib.Core.Path.{_∙_, refl, sym, ap}
-use native.Mathlib.Omega.{arith}
 use borrow.Author.Needs.{needs}
-use denote.Ref.{now}
-use Rattle.wire.specs.Integers.{Bytes}
-use Rattle.frame_reading.proofs.Sizes.{number-read}
+use Rattle.frame_head.proofs.Heads.{size-there}
 use Rattle.frame_reading.proofs.Told.{short-told, refusal-told}
 use Rattle.captures.specs.Answer.{told}
 use Rattle.captures.proofs.Followings.{nothing-left, something-left, frame-left}
@@ -12,7 +9,6 @@ use Rattle.captures.proofs.walker.next_frame.Statement.{statement}
 use Rattle.captures.proofs.walker.next_frame.Tie as tie
 
 pub next-frame-spec : {M : Type 1} → statement M
-unfolding Bytes
 next-frame-spec =
     tie.close
     (tie.spec
@@ -20,7 +16,6 @@ next-frame-spec =
     (λ c. nothing-left _ _ _ _ _ (c .before .if1 .taken) (c .if2 .left))
     (λ c κs. search needs)
     (λ c. search needs)
-    (λ c κs. search needs)
     (λ c κs. search needs)
     (λ c. search needs)
     (λ c. search needs)
@@ -31,13 +26,10 @@ next-frame-spec =
     (ap told (something-left _ _ _ (read .before .before .if1 .left) _ _ (short-told _ _ (sym (short .needed .given .1) ∙ read .read .ensures .0)) (c .if3 .taken)), read .read .ensures .1 .0))
     (λ c. search needs)
     (λ c.
-    let size = c .before in
-    let frame = size .before .before in
-    let read = frame .before .before in
-    let known = read .before .before .before in
-    let bytes : Bytes (now (known .before .args .rest)) = λ i. omega (arith, known .shared-slice-known .given i) in (
-      frame-left _ _ _ (read .before .before .if1 .left) _ (sym (frame .enum-told .given .1) ∙ read .read .ensures .0)
-          (λ l. number-read 4 0xffff_ffff refl _ 0 _ _ _ bytes (omega (arith, l)) (size .before .within .ensures) (size .u32-field .ensures)),
+    let head = c .before in
+    let frame = head .before in
+    let read = frame .before .before in (
+      frame-left _ _ _ (read .before .before .if1 .left) _ (sym (frame .enum-told .given .1) ∙ read .read .ensures .0) (λ l. size-there _ _ (head .head-of .ensures) l),
       read .read .ensures .1 .0,
     ))
     (λ c.
