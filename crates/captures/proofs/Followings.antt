@@ -7,10 +7,10 @@ use mathlib.Core.Logic.{_⊎_, inl, inr}
 use Prim.Native.Nat.{ℕ, _+_, _^_, _<_, _≤_}
 use native.Mathlib.Omega.{arith}
 use lib.Dec.{ltb}
-use lib.ListN.{length, getD}
+use lib.ListN.{length}
 use lib.Seq.{take-append-le}
 use borrow.Author.Tests.{ltb-true, ltb-false, ne-eqb}
-use Rattle.wire.specs.Integers.{Bytes, bigEndian}
+use Rattle.wire.specs.Integers.{bigEndian}
 use Rattle.wire.proofs.Widths.{in-part, integers}
 use Rattle.protocol.specs.Decision.{Decision, layout, unlistedKey, unlistedVersion, decide}
 use Rattle.protocol.specs.Fields.{Field, Fields}
@@ -27,7 +27,7 @@ use Rattle.frame_reading.specs.Answer.{told as read-told}
 use Rattle.frame_reading.specs.declared.reading.FrameRead.the-variants.{Frame as FrameThere}
 use Rattle.frame_reading.proofs.Told.{frame-told}
 use Rattle.captures.specs.Answer.{told}
-use Rattle.captures.specs.Following.{Next, framed, whole, cut, refused, more, nextOf, following, Rest, WindowTells, MoreIsShort}
+use Rattle.captures.specs.Following.{Next, framed, whole, cut, refused, more, nextOf, following, Rest, WindowTells, MoreIsShort, SlotsTell}
 use Rattle.captures.specs.declared.walker.Next.{Next as Answer}
 use Rattle.captures.specs.declared.walker.Next.the-variants.{Frame, Whole, Cut, Refused, More}
 
@@ -58,7 +58,7 @@ module _ (s : List ℕ) (ended : Bool) (limit : ℕ) (n : length s ≡ 0 → ⊥
 
 -- What is known of what comes next by what is told of it.
 abbrev pub Tells : Answer → Next → Type 0
-Tells (Frame size) n = (f : Fields Place) × (n ≡ framed f size)
+Tells (Frame len) n = (f : Fields Place) × (n ≡ framed f len)
 Tells Whole n = n ≡ whole
 Tells (Cut left needed) n = n ≡ cut left needed
 Tells (Refused number) n = n ≡ refused number
@@ -68,7 +68,7 @@ pub tells : (r : Answer) (n : Next) → r ≡ told n → Tells r n
 tells r n e = subst (λ (x : Answer). Tells x n) (sym e) (by n)
   where
     by : (n : Next) → Tells (told n) n
-    by (framed f size) = (f, refl)
+    by (framed f len) = (f, refl)
     by whole = refl
     by (cut left needed) = refl
     by (refused number) = refl
@@ -78,7 +78,7 @@ tells r n e = subst (λ (x : Answer). Tells x n) (sym e) (by n)
 
 -- It is there, and has bytes; and it is the frame that is read.
 abbrev There : List ℕ → ℕ → Next → Type 0
-There s limit (framed f size) = (0 < size) × (size ≤ length s) × (readFrame s limit ≡ frame f)
+There s limit (framed f len) = (0 < len) × (len ≤ length s) × (readFrame s limit ≡ frame f)
 There s limit whole = Unit
 There s limit (cut left needed) = Unit
 There s limit (refused n) = Unit
@@ -96,27 +96,18 @@ there (b ∷ s) ended limit = by ended (readFrame (b ∷ s) limit) refl (head (b
     by false (short n) e h = tt
     by ended (refusal n p) e h = tt
 
-pub framed-there : (s : List ℕ) (ended : Bool) (limit : ℕ) (f : Fields Place) (size : ℕ) → following s ended limit ≡ framed f size → (0 < size) × (size ≤ length s) × (readFrame s limit ≡ frame f)
-framed-there s ended limit f size e = subst (There s limit) e (there s ended limit)
+pub framed-there : (s : List ℕ) (ended : Bool) (limit : ℕ) (f : Fields Place) (len : ℕ) → following s ended limit ≡ framed f len → (0 < len) × (len ≤ length s) × (readFrame s limit ≡ frame f)
+framed-there s ended limit f len e = subst (There s limit) e (there s ended limit)
 
--- Its key and version are in the first two slots, and are numbers of two bytes.
-pub record KeySlots (f : Fields Place) (slots : List ℕ) : Type 0 where
-  pub key : getD slots 0 0 ≡ f .key
-  pub version : getD slots 1 0 ≡ f .version
-  pub key-fits : getD slots 0 0 < 65536
-  pub version-fits : getD slots 1 0 < 65536
-
-pub key-slots : (s old slots : List ℕ) (ended : Bool) (limit : ℕ) (f : Fields Place) (size : ℕ) → Bytes s → following s ended limit ≡ framed f size → slots ≡ slotsAfter old (readFrame s limit) → KeySlots f slots
+-- Its key and version are the two numbers after Size.
+pub slots-tell : SlotsTell
 unfolding flatFrame padded
-key-slots s old slots ended limit f size b e i =
-    let r : readFrame s limit ≡ frame f = framed-there s ended limit f size e .2 in
+slots-tell s old ended limit f len b e =
+    let r : readFrame s limit ≡ frame f = framed-there s ended limit f len e .2 in
     let h : Head s (frame f) = subst (Head s) r (head s limit) in
-    let j : slots ≡ flatFrame f = rw r at i in
-    let k : getD slots 0 0 ≡ f .key = rw j in
-    let v : getD slots 1 0 ≡ f .version = rw j in
     let m : bigEndian 2 s 4 < 256 ^ 2 = integers 2 .range s 4 b in
     let n : bigEndian 2 s 6 < 256 ^ 2 = integers 2 .range s 6 b in
-    record { key = k; version = v; key-fits = omega (arith, k, h .2, m); version-fits = omega (arith, v, h .3, n) }
+    rw r (record { key = refl; version = refl; key-fits = omega (arith, h .2, m); version-fits = omega (arith, h .3, n) })
 
 -- ---- What a window tells
 

@@ -4,11 +4,13 @@ use mathlib.Core.Bool.{Bool, true, false, cond}
 use mathlib.Core.List.{List, [], _∷_, _++_}
 use mathlib.Core.Logic.{_⊎_}
 use Prim.Native.Nat.{ℕ, _+_, _<_}
-use lib.ListN.{length}
+use lib.ListN.{length, getD}
+use Rattle.wire.specs.Integers.{Bytes}
 use Rattle.protocol.specs.Fields.{Fields}
 use Rattle.protocol.specs.declared.place.Place.{Place}
 use Rattle.rules.specs.Exactness.{frameLength}
 use Rattle.rules.specs.Reading.{Reading, frame, short, refusal, readFrame}
+use Rattle.slots.specs.Flat.{slotsAfter}
 
 -- What comes next: a frame, with its length in bytes; the capture's end after a frame; a frame that is cut, of which so many
 -- bytes are left of so many; a refusal. Of a part that more bytes may follow the answer can be that more are needed.
@@ -20,9 +22,9 @@ pub data Next : Type 0 where
   more : Next
 
 abbrev pub nextOf : Reading → Bool → ℕ → ℕ → Next
-nextOf (frame f) ended left size = framed f size
-nextOf (short needed) ended left size = cond ended (cut left needed) more
-nextOf (refusal n at) ended left size = refused n
+nextOf (frame f) ended left len = framed f len
+nextOf (short needed) ended left len = cond ended (cut left needed) more
+nextOf (refusal n at) ended left len = refused n
 
 -- What comes next under a frame limit, where s is what is left of a capture that has ended, or where more may follow s.
 unfoldable pub following : List ℕ → Bool → ℕ → Next
@@ -42,3 +44,13 @@ WindowTells = (w rest : List ℕ) (ended : Bool) (limit : ℕ) → Rest ended re
 -- than the longest frame within it. So a window that holds such a frame always has room for more.
 abbrev pub MoreIsShort : Type 0
 MoreIsShort = (s : List ℕ) (ended : Bool) (limit : ℕ) → following s ended limit ≡ more → ((length s < 4) ⊎ (length s < frameLength s)) × (0 < limit → length s < limit + 4)
+
+-- The first two slots of a frame that comes next are its key and its version, which have two bytes each.
+pub record KeySlots (f : Fields Place) (slots : List ℕ) : Type 0 where
+  pub key : getD slots 0 0 ≡ f .key
+  pub version : getD slots 1 0 ≡ f .version
+  pub key-fits : getD slots 0 0 < 65536
+  pub version-fits : getD slots 1 0 < 65536
+
+abbrev pub SlotsTell : Type 0
+SlotsTell = (s old : List ℕ) (ended : Bool) (limit : ℕ) (f : Fields Place) (len : ℕ) → Bytes s → following s ended limit ≡ framed f len → KeySlots f (slotsAfter old (readFrame s limit))

@@ -17,11 +17,11 @@ use Rattle.protocol.specs.Fields.{Fields}
 use Rattle.protocol.specs.declared.place.Place.{Place}
 use Rattle.rules.specs.Reading.{readFrame}
 use Rattle.slots.specs.Flat.{slotsAfter}
-use Rattle.captures.specs.Following.{Next, framed, whole, cut, refused, more, following, Rest}
+use Rattle.captures.specs.Following.{Next, framed, whole, cut, refused, more, following, Rest, KeySlots}
 use Rattle.captures.specs.Answer.{told}
 use Rattle.captures.specs.declared.walker.Next.{Next as Answer}
 use Rattle.captures.specs.declared.walker.Next.the-variants.{Frame}
-use Rattle.captures.proofs.Followings.{Tells, tells, framed-there, KeySlots, key-slots, window-known}
+use Rattle.captures.proofs.Followings.{Tells, tells, framed-there, slots-tell, window-known}
 use Rattle.listing_text.specs.Text.{ascii, joined, puts}
 use Rattle.listing_text.specs.Listing.{limit, closes, frameLine, cutLine, refusedLine, closingLine, linesFrom, linesOf}
 use Rattle.listing_text.specs.Steps.{greatest, tooLong, begun, halted, advanced, printed, moved, Steps, behind, Lists, Stopped, Stops}
@@ -203,11 +203,11 @@ pub halted-at : (from offset frames : ℕ) (r : Progress) (at : ℕ) (exit : Lis
 halted-at from offset frames r at exit h s e f = rw f (e, refl)
 
 -- A frame at a place of the window lies in it, and its key and version are in the slots.
-pub record FrameAt (w : List ℕ) (from : ℕ) (ended : Bool) (size : ℕ) (slots : List ℕ) : Type 0 where
+pub record FrameAt (w : List ℕ) (from : ℕ) (ended : Bool) (len : ℕ) (slots : List ℕ) : Type 0 where
   pub fields : Fields Place
-  pub next : following (drop from w) ended limit ≡ framed fields size
+  pub next : following (drop from w) ended limit ≡ framed fields len
   pub keyed : KeySlots fields slots
-  pub inside : from ≤ length w → from + size ≤ length w
+  pub inside : from ≤ length w → from + len ≤ length w
 
 -- What the walker tells of the window from a place on, as it is lent.
 module _ (w : List ℕ) (from : ℕ) (ended : Bool) (r : Answer) (e : r ≡ told (following (take (length w - from) (drop from w)) ended limit)) where
@@ -217,15 +217,15 @@ module _ (w : List ℕ) (from : ℕ) (ended : Bool) (r : Answer) (e : r ≡ told
   pub next-is : (x : Answer) → r ≡ x → Tells x (following (drop from w) ended limit)
   next-is x g = tells x _ (sym g ∙ (rw lent at e))
 
-  pub frame-is : (size : ℕ) (old slots : List ℕ) → r ≡ Frame size → Bytes w → slots ≡ slotsAfter old (readFrame (take (length w - from) (drop from w)) limit) → FrameAt w from ended size slots
+  pub frame-is : (len : ℕ) (old slots : List ℕ) → r ≡ Frame len → Bytes w → slots ≡ slotsAfter old (readFrame (take (length w - from) (drop from w)) limit) → FrameAt w from ended len slots
   unfolding Bytes
-  frame-is size old slots g b i =
-      let n = next-is (Frame size) g in
-      let there = framed-there (drop from w) ended limit (n .0) size (n .1) in
+  frame-is len old slots g b i =
+      let n = next-is (Frame len) g in
+      let there = framed-there (drop from w) ended limit (n .0) len (n .1) in
       let l = length-drop from w in
       record {
         fields = n .0;
         next = n .1;
-        keyed = key-slots (drop from w) old slots ended limit (n .0) size (λ j. rw (getD-drop from w j 0) (b (from + j))) (n .1) (rw lent at i);
+        keyed = rw (i, lent) (slots-tell (drop from w) old ended limit (n .0) len (λ j. rw (getD-drop from w j 0) (b (from + j))) (n .1));
         inside = λ h. omega (arith, there .1, l, h);
       }
