@@ -15,12 +15,13 @@ mod reading;
 
 pub use reading::read;
 
-// A number of a width that is there.
+// A number of a width that is there. Of a part that is as long as the number the compiler knows that it has room.
 fn number(s: &[u8], at: usize, width: Width) -> u64
     requires { ⌜ at + widthOf width ≤ length (now s) ⌝ }
     ensures { λ r. ⌜ r ≡ bigEndian (widthOf width) (now (s .entry)) at ⌝ }
 {
-    wire::number_or_zero(s, at, width)
+    let end = at + width.bytes();
+    wire::number_or_zero(&s[at..end], 0, width)
 }
 
 // A signed number of one byte, and of four, as its 64 bits.

@@ -1,7 +1,7 @@
 -- A byte string is read as it is written: the same checks in the same order. So the code asks one function why it is
 -- refused, and what is read or written follows from the answer. Assumes nothing.
 use mathlib.Core.Path.{_≡_, refl, _∙_, sym, ap}
-use mathlib.Core.Bool.{Bool, true, false, cond, not, _&&_, true≢false}
+use mathlib.Core.Bool.{Bool, true, false, not}
 use mathlib.Core.List.{List, _++_}
 use mathlib.Core.Option.{none, some}
 use Prim.Native.Nat.{ℕ, zero, suc, _+_, _-_, _/_, _^_, _<_, _≤_}
@@ -9,11 +9,10 @@ use native.Mathlib.Omega.{arith}
 use lib.Dec.{eqb, ltb, leb, lit<, lit≤}
 use lib.IntN.{pos, negsuc}
 use lib.ListN.{length, take, drop}
-use borrow.Author.Tests.{lt-ltb, le-ltb, lt-leb, le-leb, ltb-true, ltb-false, leb-true, leb-false, eq-eqb, eqb-true, eqb-false, not-true, not-false}
-use Rattle.wire.specs.Integers.{Bytes, bigEndian, digits, numberOrZero}
+use borrow.Author.Tests.{lt-ltb, le-ltb, lt-leb, ltb-true, ltb-false, leb-true, leb-false, eqb-true, not-false}
+use Rattle.wire.specs.Integers.{Bytes, digits}
 use Rattle.wire.specs.Signed.{signed}
 use Rattle.wire.proofs.TwosComplement.{below-half, above-half, minus-one, below-minus-one}
-use Rattle.wire.proofs.Widths.{integers, or-zero}
 use Rattle.protocol.specs.Fields.{Field, place}
 use Rattle.protocol.specs.Fields as F
 use Rattle.protocol.specs.Kinds.{lengthWidth}
@@ -23,16 +22,14 @@ use Rattle.protocol.specs.declared.kind.Form.{Form}
 use Rattle.protocol.specs.declared.kind.Form.the-variants.{Text, Reference, Bytes as Raw}
 use Rattle.protocol.specs.declared.place.Place.{Place}
 use Rattle.rules.specs.Outcome.{Outcome, got, refused, then, refuseIf}
-use Rattle.rules.specs.Reading.{readString, readBody, readField, tooLong, isText}
+use Rattle.rules.specs.Reading.{readNumber, readString, readBody, readField, tooLong, isText}
 use Rattle.rules.specs.Writing.{Encoding, wrote, refuse, checked, writeString}
 use Rattle.rules.proofs.Bounds.{numbered-field}
-use Rattle.rules.proofs.Numbers.{number-there, number-cases}
-use Rattle.fields.specs.Cursor.{cursor, from, isNull, Reads}
+use Rattle.fields.specs.Cursor.{cursor, from, foundOr, Reads}
 use Rattle.fields.specs.Writer.{refusalOf}
 use Rattle.fields.specs.declared.cursor.Cursor.{Cursor}
-use Rattle.fields.proofs.Landing.{fresh, stays, by-refused, refused-there, found-there, found-with, missing-with, numbered-from}
-use Rattle.fields.proofs.Parts.{lent}
-use Rattle.fields.proofs.NumberFields.{NumberAt, number-refused, then-refused, then-found}
+use Rattle.fields.proofs.Landing.{by-refused, from-then, refused-there, found-there, found-with, missing-with, numbered-from}
+use Rattle.fields.proofs.NumberFields.{NumberAt, below, number-found, number-refused, then-refused, then-found}
 
 -- ---- The lengths of each form
 
@@ -45,6 +42,13 @@ pub some-length : (form : Form) → 0 < 256 ^ lengthWidth form / 2
 some-length Text = lit< tt
 some-length Reference = lit< tt
 some-length Raw = lit< tt
+
+module _ (form : Form) (most len : ℕ) (e : most ≡ 256 ^ lengthWidth form / 2 - 1) where
+  pub negative : most < len → 256 ^ lengthWidth form / 2 ≤ len
+  negative h = omega arith
+
+  pub not-negative : len ≤ most → len < 256 ^ lengthWidth form / 2
+  not-negative h = omega (arith, some-length form)
 
 pub narrow : (form : Form) → lengthWidth form ≤ 4
 narrow Text = lit≤ tt
@@ -67,7 +71,7 @@ unfolding readBody
 negative-refused form s at zero next = refl
 negative-refused form s at (suc k) next = refl
 
--- ---- Why a byte string is refused, check by check, and what is known of one that is not
+-- ---- What is refused with 0 is admitted
 
 pub record Admitted (form : Form) (s : List ℕ) (at len : ℕ) : Type 0 where
   pub short : len < 256 ^ lengthWidth form / 2
@@ -76,38 +80,11 @@ pub record Admitted (form : Form) (s : List ℕ) (at len : ℕ) : Type 0 where
   pub text : isText form (take len (drop at s)) ≡ true
 
 module _ (form : Form) (s : List ℕ) (at len : ℕ) where
-  abbrev pub encoding : Encoding
+  abbrev encoding : Encoding
   encoding = writeString form false s (some (place at len))
 
   abbrev bytes : List ℕ
   bytes = digits (lengthWidth form) len ++ take len (drop at s)
-
-  pub bad-length : 256 ^ lengthWidth form / 2 ≤ len → badLength ≡ refusalOf encoding
-  unfolding writeString
-  bad-length h = rw (le-leb _ _ h)
-
-  module _ (h : len < 256 ^ lengthWidth form / 2) where
-    pub over-limit : tooLong form len ≡ true → referenceTooLong ≡ refusalOf encoding
-    unfolding writeString
-    over-limit t = rw (lt-leb _ _ h, t)
-
-    module _ (t : tooLong form len ≡ false) where
-      pub outside-source : length s < at + len → fieldCut ≡ refusalOf encoding
-      unfolding writeString
-      outside-source o = rw (lt-leb _ _ h, t, lt-ltb _ _ o)
-
-      -- The part that is lent to the text check is the body.
-      module _ (o : at + len ≤ length s) (r : Bool) (e : r ≡ isText form (take (at + len - at) (drop at s))) where
-        is-text : isText form (take len (drop at s)) ≡ r
-        is-text = rw (lent s at len) at (sym e)
-
-        pub not-text : not r ≡ true → notUtf8 ≡ refusalOf encoding
-        unfolding writeString
-        not-text u = rw (lt-leb _ _ h, t, le-ltb _ _ o, is-text, not-true r u)
-
-        pub not-refused : not r ≡ false → 0 ≡ refusalOf encoding
-        unfolding writeString
-        not-refused u = rw (lt-leb _ _ h, t, le-ltb _ _ o, is-text, not-false r u)
 
   pub admitted : refusalOf encoding ≡ 0 → Admitted form s at len
   unfolding writeString
@@ -119,6 +96,10 @@ module _ (form : Form) (s : List ℕ) (at len : ℕ) where
       by false false true d i j k l z = absurd (omega (arith, z))
       by false false false false i j k l z = absurd (omega (arith, z))
       by false false false true i j k l z = record { short = leb-false _ _ i; limit = j; inside = ltb-false _ _ k; text = l }
+
+  -- What `is_string` tells, if it is one.
+  pub passes : (r : Bool) → r ≡ eqb (refusalOf encoding) 0 → not r ≡ false → Admitted form s at len
+  passes r e h = admitted (eqb-true _ _ (sym e ∙ not-false r h))
 
   pub admitted-bytes : (nullable : Bool) → Admitted form s at len → writeString form nullable s (some (place at len)) ≡ wrote bytes
   unfolding writeString
@@ -200,67 +181,52 @@ length-below Text v = below-minus-one 1 v
 length-below Reference v = below-minus-one 1 v
 length-below Raw v = below-minus-one 3 v
 
-module _ (form : Form) (s : List ℕ) (c : Cursor) where
-  abbrev largest : ℕ
-  largest = 256 ^ lengthWidth form - 1
+module _ (form : Form) (s : List ℕ) (c : Cursor) (v : ℕ) (d : Cursor) (a : NumberAt (lengthWidth form) s c v d) where
+  abbrev null-length : ℕ
+  null-length = 256 ^ lengthWidth form - 1
 
-  -- What `is_null` tells, if a null is there.
-  pub null-there : isNull form s c ≡ true → (c .at + lengthWidth form ≤ length s) × (from (readString form true) s c ≡ got (F.string none) (c .at + lengthWidth form))
-  unfolding isNull readString readBody numberOrZero
-  null-there h = by (eqb (c .refused) 0) (eqb (numberOrZero (lengthWidth form) s (c .at)) largest) refl refl h
+  -- Length -1: a number that is not there is 0.
+  pub null-found : v ≡ null-length → Reads (K.string form true) s c (F.string none) d
+  unfolding readField readString readBody
+  null-found e = by-refused d found (λ h. absurd (omega (arith, some-length form, e, missing (from (readNumber (lengthWidth form)) s c) (a .0) (number-refused (lengthWidth form) s c v d a h .0))))
     where
-      read : c .refused ≡ 0 → c .at + lengthWidth form ≤ length s → numberOrZero (lengthWidth form) s (c .at) ≡ largest → from (readString form true) s c ≡ got (F.string none) (c .at + lengthWidth form)
-      read z l n =
-          let e : bigEndian (lengthWidth form) s (c .at) ≡ largest = sym (or-zero (lengthWidth form) s (c .at) l) ∙ n in
-          rw (fresh (readString form true) s c z, number-there (lengthWidth form) s (c .at) l, length-null form _ e)
+      missing : (o : Outcome ℕ) → v ≡ foundOr 0 o → o ≡ refused (d .refused) (d .at) → v ≡ 0
+      missing o i j = rw j at i
 
-      there : numberOrZero (lengthWidth form) s (c .at) ≡ largest → c .at + lengthWidth form ≤ length s
-      there n = by-room (leb (c .at + lengthWidth form) (length s)) refl n
-        where
-          by-room : (t : Bool) → leb (c .at + lengthWidth form) (length s) ≡ t → cond t (bigEndian (lengthWidth form) s (c .at)) 0 ≡ largest → c .at + lengthWidth form ≤ length s
-          by-room true e i = leb-true _ _ e
-          by-room false e i = absurd (omega (arith, i, some-length form))
+      found : d .refused ≡ 0 → Reads (K.string form true) s c (F.string none) d
+      found h =
+          let o : from (readString form true) s c ≡ got (F.string none) (d .at) = then-found (lengthWidth form) s c v d a (λ t at x next. readBody form true t at (signed (lengthWidth form) x) next) h ∙ rw (length-null form v e) in
+          found-there (F.string none) (c .base) (d .at) _ _ _ d o refl (number-found (lengthWidth form) s c v d a h .next)
 
-      by : (t u : Bool) → eqb (c .refused) 0 ≡ t → eqb (numberOrZero (lengthWidth form) s (c .at)) largest ≡ u → (t && u) ≡ true → (c .at + lengthWidth form ≤ length s) × (from (readString form true) s c ≡ got (F.string none) (c .at + lengthWidth form))
-      by true true i j z = let n = eqb-true _ _ j in (there n, read (eqb-true _ _ i) (there n) n)
-      by true false i j z = absurd (true≢false (sym z))
-      by false u i j z = absurd (true≢false (sym z))
-
-  module _ (bytes : Bytes s) (h : isNull form s c ≡ false) where
-    -- Else it makes no difference whether null is admitted.
-    same-read : from (readString form true) s c ≡ from (readString form false) s c
-    unfolding isNull readString readBody
-    same-read =
-        by-refused c
-        (λ z. rw (fresh (readString form true) s c z, fresh (readString form false) s c z)
-        (number-cases (lengthWidth form) s (c .at)
-        (λ o. then o (λ x next. readBody form true s (c .at) (signed (lengthWidth form) x) next) ≡ then o (λ x next. readBody form false s (c .at) (signed (lengthWidth form) x) next))
-        (λ l. same (bigEndian (lengthWidth form) s (c .at)) (integers (lengthWidth form) .range s (c .at) bytes) (λ e. not-largest z l e))
-        (λ l. refl)))
-        (λ z. rw (stays (readString form true) s c z, stays (readString form false) s c z))
+  module _ (bytes : Bytes s) (h : v ≡ null-length → ⊥) where
+    -- At every other length it makes no difference whether null is admitted.
+    same-body : (x next : ℕ) → x < 256 ^ lengthWidth form → (x ≡ null-length → ⊥) → readBody form true s (c .at) (signed (lengthWidth form) x) next ≡ readBody form false s (c .at) (signed (lengthWidth form) x) next
+    unfolding readBody
+    same-body x next l n = by (leb (256 ^ lengthWidth form / 2) x) refl (ltb (suc x) (256 ^ lengthWidth form)) refl
       where
-        not-largest : c .refused ≡ 0 → c .at + lengthWidth form ≤ length s → bigEndian (lengthWidth form) s (c .at) ≡ largest → ⊥
-        not-largest z l e = eqb-false _ _ (rw (eq-eqb _ _ z) at h) (or-zero (lengthWidth form) s (c .at) l ∙ e)
+        by : (t : Bool) → leb (256 ^ lengthWidth form / 2) x ≡ t → (u : Bool) → ltb (suc x) (256 ^ lengthWidth form) ≡ u → readBody form true s (c .at) (signed (lengthWidth form) x) next ≡ readBody form false s (c .at) (signed (lengthWidth form) x) next
+        by false e u f = rw (below-half (lengthWidth form) x (leb-false _ _ e))
+        by true e true f = rw (length-below form x (leb-true _ _ e) (ltb-true _ _ f) .1)
+        by true e false f = let k : 256 ^ lengthWidth form ≤ suc x = ltb-false _ _ f in absurd (n (omega arith))
 
-        below : (x : ℕ) → x < 256 ^ lengthWidth form → (x ≡ largest → ⊥) → suc x < 256 ^ lengthWidth form
-        below x l n = by (ltb (suc x) (256 ^ lengthWidth form)) refl
-          where
-            by : (t : Bool) → ltb (suc x) (256 ^ lengthWidth form) ≡ t → suc x < 256 ^ lengthWidth form
-            by true e = ltb-true _ _ e
-            by false e = let k : 256 ^ lengthWidth form ≤ suc x = ltb-false _ _ e in absurd (n (omega arith))
+    same-read : from (readString form true) s c ≡ from (readString form false) s c
+    unfolding readString
+    same-read =
+        rw (from-then (readNumber (lengthWidth form)) (behind true) s c, from-then (readNumber (lengthWidth form)) (behind false) s c)
+        (by (from (readNumber (lengthWidth form)) s c) (a .0) (below (lengthWidth form) s c bytes))
+      where
+        behind : Bool → List ℕ → ℕ → ℕ → ℕ → Outcome (Field Place)
+        behind nullable t at x next = readBody form nullable t at (signed (lengthWidth form) x) next
 
-        same : (x : ℕ) → x < 256 ^ lengthWidth form → (x ≡ largest → ⊥) → readBody form true s (c .at) (signed (lengthWidth form) x) (c .at + lengthWidth form) ≡ readBody form false s (c .at) (signed (lengthWidth form) x) (c .at + lengthWidth form)
-        same x l n = by (leb (256 ^ lengthWidth form / 2) x) refl
-          where
-            by : (t : Bool) → leb (256 ^ lengthWidth form / 2) x ≡ t → readBody form true s (c .at) (signed (lengthWidth form) x) (c .at + lengthWidth form) ≡ readBody form false s (c .at) (signed (lengthWidth form) x) (c .at + lengthWidth form)
-            by true e = rw (length-below form x (leb-true _ _ e) (below x l n) .1)
-            by false e = rw (below-half (lengthWidth form) x (leb-false _ _ e))
+        by : (o : Outcome ℕ) → v ≡ foundOr 0 o → foundOr 0 o < 256 ^ lengthWidth form → then o (behind true s (c .at)) ≡ then o (behind false s (c .at))
+        by (got x next) i l = same-body x next l (λ e. h (i ∙ e))
+        by (refused m at) i l = refl
 
-    module _ (f : Field Place) (d : Cursor) (a : Reads (K.string form false) s c f d) where
-      pub nullable-missing : (d .refused ≡ 0 → ⊥) → Reads (K.string form true) s c (F.string none) d
+    module _ (f : Field Place) (e : Cursor) (r : Reads (K.string form false) s c f e) where
+      pub nullable-missing : (e .refused ≡ 0 → ⊥) → Reads (K.string form true) s c (F.string none) e
       unfolding readField
-      nullable-missing z = rw same-read (missing-with _ _ _ _ _ _ z a)
+      nullable-missing z = rw same-read (missing-with _ _ _ _ _ _ z r)
 
-      pub nullable-found : d .refused ≡ 0 → Reads (K.string form true) s c f d
+      pub nullable-found : e .refused ≡ 0 → Reads (K.string form true) s c f e
       unfolding readField
-      nullable-found z = rw same-read (found-with _ _ _ _ _ _ (numbered-from (readField (K.string form false)) (λ t at. numbered-field (K.string form false) t at) s c) z a)
+      nullable-found z = rw same-read (found-with _ _ _ _ _ _ (numbered-from (readField (K.string form false)) (λ t at. numbered-field (K.string form false) t at) s c) z r)

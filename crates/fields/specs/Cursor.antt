@@ -1,16 +1,14 @@
 -- A reader takes a cursor and hands one back: behind what it read, or refused. What it reads is what the definitions say.
 use mathlib.Core.Path.{_≡_}
-use mathlib.Core.Bool.{Bool, true, false, cond, _&&_}
+use mathlib.Core.Bool.{Bool, true, false, cond}
 use mathlib.Core.List.{List}
 use mathlib.Core.Option.{none, some}
-use Prim.Native.Nat.{ℕ, _-_, _^_}
+use Prim.Native.Nat.{ℕ}
 use lib.Dec.{eqb}
 use lib.IntN.{pos}
-use Rattle.wire.specs.Integers.{numberOrZero}
 use Rattle.protocol.specs.Fields.{Field, number, integer, elements, noHeader, place, overPlaces, further}
 use Rattle.protocol.specs.Fields as F
-use Rattle.protocol.specs.Kinds.{lengthWidth, Kind, unsigned, signed, string, specification, list, chunk}
-use Rattle.protocol.specs.declared.kind.Form.{Form}
+use Rattle.protocol.specs.Kinds.{Kind, unsigned, signed, string, specification, list, chunk}
 use Rattle.protocol.specs.declared.offset.OffsetSpecification.the-variants.{None}
 use Rattle.protocol.specs.declared.place.Place.{Place}
 use Rattle.rules.specs.Outcome.{Outcome, got, refused}
@@ -57,10 +55,6 @@ pub record FieldRead (blank : Field Place) (base : ℕ) (o : Outcome (Field Plac
 -- The answer of a kind's reader: the outcome is that of the kind's definition.
 abbrev pub Reads : Kind → List ℕ → Cursor → Field Place → Cursor → Type 0
 Reads kind s c field next = FieldRead (blank kind) (c .base) (from (readField kind) s c) field next
-
--- Length -1 stands at a cursor that is not refused.
-unfoldable pub isNull : Form → List ℕ → Cursor → Bool
-isNull form s c = eqb (c .refused) 0 && eqb (numberOrZero (lengthWidth form) s (c .at)) (256 ^ lengthWidth form - 1)
 
 -- The answer of the reader of an offset specification's number.
 abbrev pub OffsetRead : ℕ → Outcome (Field Place) → Field Place → Cursor → Type 0

@@ -2,7 +2,7 @@
 ghost use mathlib.Core.Bool.{false};
 ghost use mathlib.Core.Option.{some};
 ghost use mathlib.Core.Path.{_≡_};
-ghost use Prim.Native.Nat.{_-_, _/_, _^_};
+ghost use Prim.Native.Nat.{_-_, _/_, _^_, _<_};
 ghost use lib.Dec.{eqb};
 ghost use Rattle.wire.specs.Integers.{widthOf};
 ghost use Rattle.protocol.specs.Fields.{place};
@@ -18,10 +18,16 @@ use wire::Width;
 pub fn is_string(s: &[u8], at: usize, len: usize, form: Form) -> bool
     ensures { λ r. ⌜ r ≡ eqb (refusalOf (writeString form false (now (s .entry)) (some (place at len)))) 0 ⌝ }
 {
-    string_refusal(s, at, len, form) == 0
+    if largest(form) < len as u64 {
+        return false;
+    }
+    if too_long(form, len) {
+        return false;
+    }
+    body_refusal(s, at, len, form) == 0
 }
 
-// Why they are none; 0 where they are one. The length (7), the reference limit (9), the place (6), UTF-8 (8).
+// Why they are none; 0 where they are one. The length (7), the reference limit (9), the body.
 pub fn string_refusal(s: &[u8], at: usize, len: usize, form: Form) -> u8
     ensures { λ r. ⌜ r ≡ refusalOf (writeString form false (now (s .entry)) (some (place at len))) ⌝ }
 {
@@ -31,6 +37,15 @@ pub fn string_refusal(s: &[u8], at: usize, len: usize, form: Form) -> u8
     if too_long(form, len) {
         return refusal::REFERENCE_TOO_LONG;
     }
+    body_refusal(s, at, len, form)
+}
+
+// The place (6), UTF-8 (8). Both functions above call it, which keeps it out of them: so they are short enough for the
+// compiler to test a length where it is used, and to know it from there on.
+fn body_refusal(s: &[u8], at: usize, len: usize, form: Form) -> u8
+    requires { ⌜ (len < 256 ^ lengthWidth form / 2) × (tooLong form len ≡ false) ⌝ }
+    ensures { λ r. ⌜ r ≡ refusalOf (writeString form false (now (s .entry)) (some (place at len))) ⌝ }
+{
     if !wire::has_room(s.len(), at, len) {
         return refusal::FIELD_CUT;
     }

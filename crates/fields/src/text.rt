@@ -7,7 +7,7 @@ ghost use Rattle.protocol.specs.Frames.{nullableField, placeField};
 ghost use Rattle.protocol.specs.Kinds as K;
 ghost use Rattle.protocol.specs.declared.place.NullablePlace.the-variants.{Null};
 ghost use Rattle.rules.specs.Writing.{writeString};
-ghost use Rattle.fields.specs.Cursor.{isNull, Reads};
+ghost use Rattle.fields.specs.Cursor.{Reads};
 ghost use Rattle.fields.specs.Writer.{state, measured, stepField};
 use crate::cursor::Cursor;
 use crate::number::number_of;
@@ -64,11 +64,12 @@ pub fn string_field(s: &[u8], c: Cursor, form: Form) -> ReadPlace
 pub fn nullable_field(s: &[u8], c: Cursor, form: Form) -> ReadNullable
     ensures { λ r. ⌜ Reads (K.string form true) (now (s .entry)) c (nullableField (r .value)) (r .next) ⌝ }
 {
-    if is_null(s, c, form) {
-        let at = c.at;
+    let length = number_of(s, c, length_width(form));
+    if length.value == minus_one(form) {
+        let behind = length.next;
         return ReadNullable {
             value: NullablePlace::Null,
-            next: c.to(at + length_width(form).bytes()),
+            next: behind,
         };
     }
     let r = string_field(s, c, form);
@@ -84,17 +85,6 @@ pub fn nullable_field(s: &[u8], c: Cursor, form: Form) -> ReadNullable
         value: NullablePlace::At(place),
         next: next,
     }
-}
-
-// Whether a null stands at a cursor that is not refused.
-fn is_null(s: &[u8], c: Cursor, form: Form) -> bool
-    ensures { λ r. ⌜ r ≡ isNull form (now (s .entry)) c ⌝ }
-{
-    let at = c.at;
-    if c.refused != 0 {
-        return false;
-    }
-    wire::number_or_zero(s, at, length_width(form)) == minus_one(form)
 }
 
 // T?, R? and B?. Null is length -1, and has no place to look at.

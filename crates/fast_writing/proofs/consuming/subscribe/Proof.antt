@@ -7,7 +7,7 @@ use lib.ListN.{getD}
 use Rattle.protocol.specs.Kinds.{elementRow}
 use Rattle.protocol.specs.declared.kind.Element.the-variants.{Property}
 use Rattle.rules.specs.Reading.{readRow}
-use Rattle.fast_writing.proofs.Checking.{passes}
+use Rattle.fields.proofs.StringFields.{passes}
 use Rattle.fast_writing.proofs.Chain.{frame-put, part-next, text-next, eight-next}
 use Rattle.fast_writing.proofs.Encoded.{all-read, subscribe-row}
 use Rattle.wire.proofs.Within.{room}

@@ -1,14 +1,13 @@
 -- By whether the length is there, and whether its bytes are a byte string.
-use mathlib.Core.Path.{_≡_, _∙_, sym}
+use mathlib.Core.Path.{_≡_}
 use Prim.Native.Nat.{_+_, _≤_}
 use native.Mathlib.Omega.{arith}
 use lib.ListN.{length}
 use borrow.Author.Needs.{needs}
-use borrow.Author.Tests.{eqb-true, not-false}
 use Rattle.wire.proofs.Within.{room, no-room}
 use Rattle.protocol.specs.Kinds.{lengthWidth}
 use Rattle.fields.proofs.PlainEnds.{string-no-length, string-none, string-end}
-use Rattle.fields.proofs.StringFields.{admitted}
+use Rattle.fields.proofs.StringFields.{passes}
 use Rattle.fields.proofs.ends.string_end.Statement.{statement}
 use Rattle.fields.proofs.ends.string_end.Tie as tie
 
@@ -30,5 +29,5 @@ string-end-spec =
     (λ c κs. search needs)
     (λ c κs. search needs)
     (λ c. let l = c .before .before .before in string-none _ _ _ (there l) _ (rw (l .before .before .before .length-width .ensures) at (c .before .before .number-or-zero .ensures)) _ (rw (wide (l .before .before)) at (c .before .is-string .ensures)) (c .if2 .taken))
-    (λ c. let l = c .before .before .before in let a = l .before .before .before .before .before .args in omega (arith, admitted (a .form) (a .s .now) (a .at + l .before .before .bytes .result) (c .before .before .number-or-zero .result) (eqb-true _ _ (sym (c .before .is-string .ensures) ∙ not-false _ (c .if2 .left))) .inside))
+    (λ c. let l = c .before .before .before in let a = l .before .before .before .before .before .args in omega (arith, passes (a .form) (a .s .now) (a .at + l .before .before .bytes .result) (c .before .before .number-or-zero .result) _ (c .before .is-string .ensures) (c .if2 .left) .inside))
     (λ c. let l = c .before .before .before in rw (wide (l .before .before)) (string-end _ _ _ (there l) _ (rw (l .before .before .before .length-width .ensures) at (c .before .before .number-or-zero .ensures)) _ (rw (wide (l .before .before)) at (c .before .is-string .ensures)) (c .if2 .left))))

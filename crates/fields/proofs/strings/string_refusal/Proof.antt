@@ -1,41 +1,20 @@
--- Each return is one check of the definition.
+-- Each return is one check of the definition; the last is the body's.
 use mathlib.Core.Path.{_∙_, sym}
-use Prim.Native.Nat.{_+_, _/_, _^_, _<_, _≤_}
-use native.Mathlib.Omega.{arith}
-use lib.ListN.{length}
 use borrow.Author.Needs.{needs}
-use Rattle.wire.proofs.Within.{room, no-room}
-use Rattle.protocol.specs.Kinds.{lengthWidth}
-use Rattle.fields.proofs.StringFields.{some-length, bad-length, over-limit, outside-source, not-text, not-refused}
+use borrow.Author.Tests.{le-leb, lt-leb}
+use Rattle.rules.specs.Writing.{writeString}
+use Rattle.fields.proofs.StringFields.{negative, not-negative}
 use Rattle.fields.proofs.strings.string_refusal.Statement.{statement}
 use Rattle.fields.proofs.strings.string_refusal.Tie as tie
 
-short : (c : tie.Else1) → let a = c .before .before .before .args in a .len < 256 ^ lengthWidth (a .form) / 2
-short c = omega (arith, c .before .largest .ensures, c .if1 .left, some-length (c .before .before .before .args .form))
-
-inside : (c : tie.Else3) → let a = c .before .before .before .before .before .before .before .args in a .at + a .len ≤ length (a .s .now)
-inside c = room _ _ _ (c .before .has-room .ensures) (c .if3 .left)
-
 pub string-refusal-spec : {M : Type 1} → statement M
+unfolding writeString
 string-refusal-spec =
     tie.close
     (tie.spec
     (λ c κs. search needs)
-    (λ c. bad-length _ _ _ _ (omega (arith, c .before .largest .ensures, c .if1 .taken)))
+    (λ c. let a = c .before .before .before .args in rw (le-leb _ _ (negative (a .form) _ (a .len) (c .before .largest .ensures) (c .if1 .taken))))
     (λ c κs. search needs)
-    (λ c. over-limit _ _ _ _ (short (c .before .before)) (sym (c .before .too-long .ensures) ∙ c .if2 .taken))
-    (λ c κs. search needs)
-    (λ c. let l = c .before .before in outside-source _ _ _ _ (short (l .before .before)) (sym (l .before .too-long .ensures) ∙ l .if2 .left) (no-room _ _ _ (c .before .has-room .ensures) (c .if3 .taken)))
-    (λ c. omega (arith, inside c))
-    (λ c. search needs)
-    (λ c. search needs)
-    (λ c. omega (arith, inside c))
-    (λ c κs. search needs)
-    (λ c.
-    let o = c .before .before .before in
-    let l = o .before .before in
-    not-text _ _ _ _ (short (l .before .before)) (sym (l .before .too-long .ensures) ∙ l .if2 .left) (inside o) _ (c .before .is-text .ensures) (c .if4 .taken))
-    (λ c.
-    let o = c .before .before .before in
-    let l = o .before .before in
-    not-refused _ _ _ _ (short (l .before .before)) (sym (l .before .too-long .ensures) ∙ l .if2 .left) (inside o) _ (c .before .is-text .ensures) (c .if4 .left)))
+    (λ c. let l = c .before .before in let a = l .before .before .before .args in rw (lt-leb _ _ (not-negative (a .form) _ (a .len) (l .before .largest .ensures) (l .if1 .left)), ← c .before .too-long .ensures, c .if2 .taken))
+    (λ c κs. let l = c .before .before in let a = l .before .before .before .args in (not-negative (a .form) _ (a .len) (l .before .largest .ensures) (l .if1 .left), sym (c .before .too-long .ensures) ∙ c .if2 .left))
+    (λ c. c .body-refusal .ensures))
