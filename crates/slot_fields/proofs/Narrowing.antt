@@ -1,6 +1,6 @@
 -- The 64 bits of a signed number, narrowed, are its bits in the narrower field; and whether it fits is seen from them.
 -- Assumes nothing.
-use mathlib.Core.Path.{_≡_, refl, _∙_, sym, ap}
+use mathlib.Core.Path.{_≡_, refl, _∙_, ap}
 use mathlib.Core.Bool.{Bool, true, false, cond, _&&_}
 use mathlib.Core.List.{List}
 use Prim.Native.Nat.{ℕ, _-_, _/_, _^_, _<_, _≤_}
@@ -9,7 +9,7 @@ use lib.Dec.{ltb}
 use lib.IntN.{ℤ, pos, negsuc}
 use lib.ListN.{getD}
 use borrow.Author.Tests.{lt-ltb}
-use Rattle.wire.specs.Buffer.{holds}
+use Rattle.wire.specs.Buffer.{Holds, holds, put}
 use Rattle.wire.specs.Integers.{digits}
 use Rattle.wire.specs.Signed.{signed, unsigned, Signed}
 use Rattle.wire.proofs.TwosComplement.{twos-complement}
@@ -38,9 +38,9 @@ pub narrow-fits : (n x : ℕ) → narrowFits (256 ^ n / 2) x ≡ fitsSigned n (s
 unfolding narrowFits signed
 narrow-fits n x = fits-by n x (ltb x 0x8000_0000_0000_0000)
 
--- What the test tells.
-pub fits-as : (n x : ℕ) (f t : Bool) → f ≡ narrowFits (256 ^ n / 2) x → f ≡ t → fitsSigned n (signed 8 x) ≡ t
-fits-as n x f t e i = sym (narrow-fits n x) ∙ sym e ∙ i
+-- What the test of a slot tells.
+pub fits-as : (n : ℕ) {m x : ℕ} {f : Bool} → f ≡ narrowFits (256 ^ n / 2) m → m ≡ x → f ≡ fitsSigned n (signed 8 x)
+fits-as n {m} e i = e ∙ narrow-fits n m ∙ ap (λ (y : ℕ). fitsSigned n (signed 8 y)) i
 
 -- A number of eight bytes fits.
 signed-whole : (z : ℤ) → Signed 8 z → fitsSigned 8 z ≡ true
@@ -50,51 +50,33 @@ signed-whole (negsuc k) h = lt-ltb _ _ h
 pub whole-fits : (x : ℕ) → x < 0x1_0000_0000_0000_0000 → fitsSigned 8 (signed 8 x) ≡ true
 whole-fits x h = signed-whole (signed 8 x) (twos-complement 7 .fits x h)
 
--- ---- The header's numbers: the first four, and the last five. A number of eight bytes fits its field.
+-- ---- The header
 
-abbrev Counts : ℕ → ℕ → ℕ → ℕ → Bool
-Counts magic kind entries records = fitsSigned 1 (signed 8 magic) && fitsSigned 1 (signed 8 kind) && ltb entries (256 ^ 2) && ltb records (256 ^ 4)
+-- Its numbers as the code tests them: those of eight bytes fit.
+eights : (p t u v : Bool) → t ≡ true → u ≡ true → v ≡ true → (p && t && u && v) ≡ p
+eights true t u v i j k = rw (i, j, k)
+eights false t u v i j k = refl
 
-abbrev Lengths : ℕ → ℕ → ℕ → ℕ → ℕ → Bool
-Lengths checksum content trailer bloom reserved =
-    fitsSigned 4 (signed 8 checksum) && ltb content (256 ^ 4) && ltb trailer (256 ^ 4) && ltb bloom 256 && ltb reserved (256 ^ 3)
+module _ (t : List ℕ) (w : (i : ℕ) → getD t i 0 < 0x1_0000_0000_0000_0000) {e r d l b v : ℕ} {x y z : Bool} where
+  pub header-tells : x ≡ fitsSigned 1 (signed 8 (getD t 0 0)) → y ≡ fitsSigned 1 (signed 8 (getD t 1 0)) → e ≡ getD t 2 0 → r ≡ getD t 3 0 → z ≡ fitsSigned 4 (signed 8 (getD t 7 0)) → d ≡ getD t 8 0 → l ≡ getD t 9 0 → b ≡ getD t 10 0 → v ≡ getD t 11 0 → (x && y && ltb e 0x1_0000 && ltb r 0x1_0000_0000 && z && ltb d 0x1_0000_0000 && ltb l 0x1_0000_0000 && ltb b 0x100 && ltb v 0x100_0000) ≡ fitsHeader (unflatHeader t)
+  header-tells i₀ i₁ i₂ i₃ i₇ i₈ i₉ i₁₀ i₁₁ =
+      rw (
+        i₀,
+        i₁,
+        i₂,
+        i₃,
+        i₇,
+        i₈,
+        i₉,
+        i₁₀,
+        i₁₁,
+        eights (fitsSigned 1 (signed 8 (getD t 0 0)) && fitsSigned 1 (signed 8 (getD t 1 0)) && ltb (getD t 2 0) (256 ^ 2) && ltb (getD t 3 0) (256 ^ 4)) _ _ _ (whole-fits (getD t 4 0) (w 4)) (lt-ltb (getD t 5 0) (256 ^ 8) (w 5)) (lt-ltb (getD t 6 0) (256 ^ 8) (w 6)),
+      )
 
-counts-same : (m k e r m' k' e' r' : ℕ) → m ≡ m' → k ≡ k' → e ≡ e' → r ≡ r' → Counts m k e r ≡ Counts m' k' e' r'
-counts-same m k e r m' k' e' r' h i j l = λ x. Counts (h x) (i x) (j x) (l x)
+-- A number put behind those before it, by what it is.
+module _ (n : ℕ) {v x : ℕ} {o q : List ℕ} {a b : ℕ} {h : Holds} where
+  pub unsigned-next : v ≡ x → holds o a ≡ h → holds q b ≡ put o a (digits n v) → holds q b ≡ behind (digits n x) h
+  unsigned-next e i j = j ∙ ap (behind (digits n v)) i ∙ ap (λ (y : ℕ). behind (digits n y) h) e
 
-lengths-same : (a b c d e a' b' c' d' e' : ℕ) → a ≡ a' → b ≡ b' → c ≡ c' → d ≡ d' → e ≡ e' → Lengths a b c d e ≡ Lengths a' b' c' d' e'
-lengths-same a b c d e a' b' c' d' e' h i j k l = λ x. Lengths (h x) (i x) (j x) (k x) (l x)
-
-all-fit : (a b c d e t u v : Bool) → t ≡ true → u ≡ true → v ≡ true → (a && b && c && d && e) ≡ (true && t && u && v && a && b && c && d && e)
-all-fit a b c d e t u v i j k = rw (i, j, k)
-
-module _ (s : List ℕ) where
-  -- Behind the first four.
-  abbrev Then : Bool → Bool
-  Then first =
-      first && fitsSigned 8 (signed 8 (getD s 4 0)) && ltb (getD s 5 0) (256 ^ 8) && ltb (getD s 6 0) (256 ^ 8)
-      && fitsSigned 4 (signed 8 (getD s 7 0)) && ltb (getD s 8 0) (256 ^ 4) && ltb (getD s 9 0) (256 ^ 4) && ltb (getD s 10 0) 256 && ltb (getD s 11 0) (256 ^ 3)
-
-  module _ (m k e r : ℕ) (f : Bool) (m-is : m ≡ getD s 0 0) (k-is : k ≡ getD s 1 0) (e-is : e ≡ getD s 2 0) (r-is : r ≡ getD s 3 0) (tested : f ≡ Counts m k e r) where
-    counts-are : (t : Bool) → f ≡ t → Counts (getD s 0 0) (getD s 1 0) (getD s 2 0) (getD s 3 0) ≡ t
-    counts-are t h = sym (counts-same m k e r (getD s 0 0) (getD s 1 0) (getD s 2 0) (getD s 3 0) m-is k-is e-is r-is) ∙ sym tested ∙ h
-
-    pub counts-fail : f ≡ false → false ≡ fitsHeader (unflatHeader s)
-    counts-fail h = sym (ap Then (counts-are false h))
-
-    pub lengths-tell : (a b c d x : ℕ) (g : Bool) → f ≡ true → ((i : ℕ) → getD s i 0 < 0x1_0000_0000_0000_0000) → a ≡ getD s 7 0 → b ≡ getD s 8 0 → c ≡ getD s 9 0 → d ≡ getD s 10 0 → x ≡ getD s 11 0 → g ≡ Lengths a b c d x → g ≡ fitsHeader (unflatHeader s)
-    lengths-tell a b c d x g h l a-is b-is c-is d-is x-is tells =
-        tells
-        ∙ lengths-same a b c d x (getD s 7 0) (getD s 8 0) (getD s 9 0) (getD s 10 0) (getD s 11 0) a-is b-is c-is d-is x-is
-        ∙ all-fit (fitsSigned 4 (signed 8 (getD s 7 0))) (ltb (getD s 8 0) (256 ^ 4)) (ltb (getD s 9 0) (256 ^ 4)) (ltb (getD s 10 0) 256) (ltb (getD s 11 0) (256 ^ 3)) (fitsSigned 8 (signed 8 (getD s 4 0))) (ltb (getD s 5 0) (256 ^ 8)) (ltb (getD s 6 0) (256 ^ 8)) (whole-fits (getD s 4 0) (l 4)) (lt-ltb (getD s 5 0) (256 ^ 8) (l 5)) (lt-ltb (getD s 6 0) (256 ^ 8) (l 6))
-        ∙ sym (ap Then (counts-are true h))
-
--- The twelve numbers, put in three steps.
-pub header-put : (out : List ℕ) (at : ℕ) (a b c : List ℕ) (i j n : ℕ) (m k e r t p o x d l f v m' k' e' r' t' p' o' x' d' l' f' v' : ℕ)
-    → m ≡ m' → k ≡ k' → e ≡ e' → r ≡ r' → t ≡ t' → p ≡ p' → o ≡ o' → x ≡ x' → d ≡ d' → l ≡ l' → f ≡ f' → v ≡ v'
-    → holds a i ≡ behind (digits 4 r) (behind (digits 2 e) (behind (digits 1 k) (behind (digits 1 m) (holds out at))))
-    → holds b j ≡ behind (digits 4 x) (behind (digits 8 o) (behind (digits 8 p) (behind (digits 8 t) (holds a i))))
-    → holds c n ≡ behind (digits 3 v) (behind (digits 1 f) (behind (digits 4 l) (behind (digits 4 d) (holds b j))))
-    → holds c n ≡ behind (digits 3 v') (behind (digits 1 f') (behind (digits 4 l') (behind (digits 4 d') (behind (digits 4 x') (behind (digits 8 o') (behind (digits 8 p') (behind (digits 8 t') (behind (digits 4 r') (behind (digits 2 e') (behind (digits 1 k') (behind (digits 1 m') (holds out at))))))))))))
-header-put out at a b c i j n m k e r t p o x d l f v m' k' e' r' t' p' o' x' d' l' f' v' e1 e2 e3 e4 e5 e6 e7 e8 e9 e10 e11 e12 one two three =
-    rw (← e1, ← e2, ← e3, ← e4, ← e5, ← e6, ← e7, ← e8, ← e9, ← e10, ← e11, ← e12, ← one, ← two) three
+  pub signed-next : v ≡ x → holds o a ≡ h → holds q b ≡ put o a (digits n (unsigned n (signed 8 v))) → holds q b ≡ behind (digits n (unsigned n (signed 8 x))) h
+  signed-next e i j = j ∙ ap (behind (digits n (unsigned n (signed 8 v)))) i ∙ ap (λ (y : ℕ). behind (digits n (unsigned n (signed 8 y))) h) e
