@@ -33,8 +33,7 @@ use Rattle.slots.proofs.Inverse.{octets-back, offset-back, field-behind}
 use Rattle.frame_reading.specs.Answer.{told}
 use Rattle.frame_reading.specs.declared.reading.FrameRead.the-variants.{Frame}
 use Rattle.frame_reading.proofs.Told.{frame-told, slots-told}
-use Rattle.protocol.specs.Decision.{layout, decide}
-use Rattle.slot_frames.specs.Typed.{cut, typedHeader, typedField, typedRow, typedFields}
+use Rattle.slot_frames.specs.Typed.{cut, Listed, typedHeader, typedField, typedRow, typedFields}
 
 -- ---- A chunk's header
 
@@ -132,7 +131,7 @@ module _ (s : List ℕ) (limit : ℕ) (old new : List ℕ) (bytes : Bytes s) (t 
   slots : new ≡ flatFrame (read .0)
   slots = slots-told (read .0) (readFrame s limit) old new (read .1) h
 
-  pub read-listed : decide (getD new 0 0) (getD new 1 0) ≡ layout (getD new 0 0) (getD new 1 0)
+  pub read-listed : Listed (getD new 0 0) (getD new 1 0)
   unfolding flatFrame padded
   read-listed = rw slots (sound s limit (read .0) bytes (sym (read .1)) .valid .listed)
 
