@@ -15,6 +15,7 @@ use Rattle.slots.proofs.Padding.{splice-padded}
 use Rattle.typed_slots.specs.Built.{started, appended}
 use Rattle.typed_slots.specs.declared.builder.Builder.{Builder}
 
+-- Where there is room, what is appended follows the numbers that are there.
 pub onto : (xs ys : List ℕ) (b c : Builder) → leb (length xs + length ys) 24 ≡ true → b ≡ started xs → c ≡ appended b ys → c ≡ started (xs ++ ys)
 unfolding started appended
 onto xs ys b c h e f =

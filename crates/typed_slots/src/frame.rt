@@ -19,6 +19,7 @@ pub fn frame_slots(frame: Frame) -> [u64; 24]
     slots
 }
 
+// An arm lists its fields as its row in the table does.
 fn filled(frame: Frame) -> Builder
     ensures { λ r. ⌜ r .slots ≡ flatFrame (fieldsOf frame) ⌝ }
     ensures { λ _. ⌜ SignedFrame (fieldsOf frame) ⌝ }

@@ -13,6 +13,7 @@ use Rattle.typed_slots.proofs.Built.{onto, two-octets, two-offset}
 use Rattle.typed_slots.proofs.frame.filled.Statement.{statement}
 use Rattle.typed_slots.proofs.frame.filled.Tie as tie
 
+-- The builder that holds all fields of a frame.
 abbrev whole : Frame → Builder
 whole f = started (fieldsOf f .key ∷ fieldsOf f .version ∷ flatRow (rowOf (fieldsOf f .key) (fieldsOf f .version)) (fieldsOf f .content))
 
