@@ -1,14 +1,14 @@
 -- A chunk's reader goes through the definition's checks one by one. Assumes nothing.
 use mathlib.Core.Path.{_≡_, refl, _∙_, sym, ap}
-use mathlib.Core.Bool.{Bool, true, false, cond, not, _&&_}
+use mathlib.Core.Bool.{Bool, true, false, cond, not}
 use mathlib.Core.List.{List}
-use Prim.Native.Nat.{ℕ, _+_, _-_, _<_, _≤_}
+use Prim.Native.Nat.{ℕ, _+_, _<_, _≤_}
 use native.Mathlib.Nat.{le-of-lt, le-of-eq}
 use native.Mathlib.Omega.{arith}
 use lib.Dec.{eqb, ltb}
 use lib.IntN.{ℤ}
 use lib.ListN.{length}
-use borrow.Author.Tests.{lt-ltb, le-ltb, ltb-true, ltb-false, ne-eqb, eqb-true, eqb-false}
+use borrow.Author.Tests.{lt-ltb, le-ltb, ltb-true, ltb-false}
 use Rattle.wire.specs.Integers.{bigEndian}
 use Rattle.wire.specs.Signed.{signed}
 use Rattle.protocol.specs.Fields.{Field, noHeader, place}
@@ -23,9 +23,8 @@ use Rattle.rules.proofs.Bounds.{Numbered, numbered, Bounded, bounded-data}
 use Rattle.fields.specs.Cursor.{cursor, from, Reads}
 use Rattle.fields.specs.declared.cursor.Cursor.{Cursor}
 use Rattle.fields.proofs.Landing.{fresh, stays, refused-there, found-there}
-use Rattle.chunks.specs.Stops.{stop, told, Stopped, entriesFrom}
+use Rattle.chunks.specs.Stops.{stop, entriesFrom}
 use Rattle.chunks.specs.declared.entry.Stop.{Stop}
-use Rattle.chunks.specs.declared.entry.Walked.{Walked}
 
 -- Behind the header.
 module _ (s : List ℕ) (at kind len : ℕ) (k : kind ≡ bigEndian 1 s (at + 1)) (l : len ≡ bigEndian 4 s (at + 36)) where
@@ -123,9 +122,6 @@ module _ (s : List ℕ) (at : ℕ) where
             record { long = l; ends = ap (λ (x : Stop). x .at) j ∙ k; read = i ∙ ap (got (F.chunk (headerAt s at) (place (at + 48) (headerAt s at .«data_length»)))) k }
         by (refused m p) l i b n u = absurd (n (sym (ap (λ (x : Stop). x .refused) (e ∙ ap stop i)) ∙ z))
 
-pub read-whole : (s : List ℕ) (at : ℕ) → true ≡ eqb (stop (readChunk s at) .refused) 0 → Whole s at (stop (readChunk s at))
-read-whole s at e = whole s at _ refl (eqb-true _ _ (sym e))
-
 -- The whole chunk, at a cursor.
 module _ (s : List ℕ) (c : Cursor) where
   abbrev pub NotRead : Field Place → Cursor → Cursor → Type 0
@@ -153,37 +149,3 @@ module _ (s : List ℕ) (c : Cursor) where
     chunk-found g z i =
         let w = whole s (c .at) t j z in
         rw (i, z, w .ends) (found-there (F.chunk noHeader (place 0 0)) (c .base) (length s) _ _ _ (cursor (c .base) (length s) 0) (chunk-is ∙ w .read) refl refl)
-
--- Whether it is read, by one check after another.
-module _ (s : List ℕ) (at : ℕ) where
-  abbrev IsRead : Bool → Type 0
-  IsRead r = r ≡ eqb (stop (readChunk s at) .refused) 0
-
-  pub not-there : length s < at + 48 → IsRead false
-  not-there l = rw (← header-cut s at l)
-
-  module _ (l : at + 48 ≤ length s) (kind len : ℕ) (k : kind ≡ bigEndian 1 s (at + 1)) (n : len ≡ bigEndian 4 s (at + 36)) where
-    is-read : (d : Stop) → Headed s at kind len k n d → IsRead (eqb (d .refused) 0)
-    is-read d h = ap (λ (x : Stop). eqb (x .refused) 0) (h ∙ sym (ap stop (header-there s at l)))
-
-    pub no-type : isChunkType (signed 1 kind) ≡ false → IsRead false
-    no-type t = is-read _ (type-refused s at kind len k n t)
-
-    module _ (t : isChunkType (signed 1 kind) ≡ true) where
-      pub not-as-long : (length s - (at + 48) ≡ len → ⊥) → IsRead false
-      not-as-long d = by (ltb (length s) (at + 48 + len)) refl
-        where
-          by : (b : Bool) → ltb (length s) (at + 48 + len) ≡ b → IsRead false
-          by true e = is-read _ (data-cut s at kind len k n t (ltb-true _ _ e))
-          by false e = let m : at + 48 + len ≤ length s = ltb-false _ _ e in is-read _ (data-longer s at kind len k n t (omega (arith, d, m, l)))
-
-      module _ (e : length s - (at + 48) ≡ len) where
-        pub closed-read : hasEntries (signed 1 kind) ≡ false → IsRead true
-        closed-read u = is-read _ (data-closed s at kind len k n t (omega (arith, e, l)) u)
-
-        pub entries-tell : (w : Walked) (i j : ℕ) → hasEntries (signed 1 kind) ≡ true → i ≡ bigEndian 2 s (at + 2) → j ≡ bigEndian 4 s (at + 4) → told s w ≡ stop (entriesFrom i j (at + 4) s (at + 48)) → Stopped s w → IsRead (eqb (w .left) 0 && eqb (w .refused) 0)
-        entries-tell w i j u f g h z = by (eqb (w .left) 0) refl ∙ is-read (told s w) (data-entries s at kind len k n t (omega (arith, e, l)) (told s w) i j u f g h)
-          where
-            by : (b : Bool) → eqb (w .left) 0 ≡ b → (b && eqb (w .refused) 0) ≡ eqb (told s w .refused) 0
-            by true m = rw m
-            by false m = sym (ne-eqb _ 0 (z (eqb-false _ _ m)))

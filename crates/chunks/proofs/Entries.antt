@@ -4,7 +4,7 @@ use mathlib.Core.Bool.{Bool, true, false}
 use mathlib.Core.List.{List}
 use Prim.Native.Nat.{ℕ, zero, suc, _+_, _-_, _<_, _≤_}
 use native.Mathlib.Omega.{arith}
-use lib.Dec.{eqb, leb, ltb}
+use lib.Dec.{leb, ltb}
 use lib.ListN.{length}
 use borrow.Author.Tests.{eq-eqb, ne-eqb, le-leb, lt-leb, lt-ltb, le-ltb, leb-true, leb-false, ltb-true, ltb-false}
 use Rattle.wire.specs.Integers.{bigEndian}
@@ -25,9 +25,8 @@ use Rattle.fields.proofs.Loops.{ends}
 use Rattle.fields.proofs.NumberFields.{NumberAt, NumberThere, number-refused, number-found, then-refused, then-found}
 use Rattle.fields.proofs.PlainEnds.{negative-end}
 use Rattle.fields.proofs.StringFields.{body-cut, body-read}
-use Rattle.chunks.specs.Stops.{stop, told, Stopped, entriesFrom}
+use Rattle.chunks.specs.Stops.{stop, entriesFrom}
 use Rattle.chunks.specs.declared.entry.Stop.{Stop}
-use Rattle.chunks.specs.declared.entry.Walked.{Walked}
 
 -- A cursor where reading stopped.
 pub landed-at : {A : Type 0} (base : ℕ) (o : Outcome A) (t : Stop) → t ≡ stop o → cursor base (t .at) (t .refused) ≡ landed base o
@@ -89,9 +88,6 @@ entry-end s at r e = e ∙ by (readNumber 4 s at)
     by (got x next) = same-end s at next x
     by (refused n p) = refl
 
-abbrev walked : ℕ → ℕ → ℕ → Walked
-walked at left n = record { at = at; left = left; refused = n }
-
 -- Four bytes stand in front of a message, so no entry ends at 0.
 abbrev Moves : Outcome Place → Type 0
 Moves (got p next) = next ≡ 0 → ⊥
@@ -126,34 +122,22 @@ module _ (s : List ℕ) (at e : ℕ) (h : e ≡ endOf (readEntry s at)) where
       by (refused m p) i = absurd (k i)
 
   -- One that is refused ends the walk with its refusal.
-  pub walk-stopped : (left : ℕ) → (left ≡ 0 → ⊥) → e ≡ 0 → (told s (walked at left 0) ≡ stop (repeated readEntry left s at)) × Stopped s (walked at left 0) × (walked at left 0 .refused ≡ 0)
+  pub walk-stopped : (left : ℕ) (c d : Cursor) → (left ≡ 0 → ⊥) → e ≡ 0 → c ≡ cursor 0 at 0 → d ≡ landed (c .base) (from readEntry s c) → record { at = d .at; refused = d .refused } ≡ stop (repeated readEntry left s at)
   unfolding repeated
-  walk-stopped zero z k = absurd (z refl)
-  walk-stopped (suc n) z k = by (readEntry s at) h (moves s at) (numbered-entry s at) refl
+  walk-stopped zero c d z k f g = absurd (z refl)
+  walk-stopped (suc n) c d z k f g = by (readEntry s at) h (moves s at) (rw f at g ∙ ap (landed 0) (fresh readEntry s (cursor 0 at 0) refl))
     where
-      by : (o : Outcome Place) → e ≡ endOf o → Moves o → Numbered o → readEntry s at ≡ o → (told s (walked at (suc n) 0) ≡ stop (then o (λ a next. repeated readEntry n s next))) × Stopped s (walked at (suc n) 0) × (walked at (suc n) 0 .refused ≡ 0)
-      by (got a next) i m _ j = absurd (m (sym i ∙ k))
-      by (refused m p) i _ f j = let q : eqb (suc n) 0 ≡ false = ne-eqb (suc n) 0 z in (rw (q, j), λ _ g. f (rw (q, j) at g), refl)
+      by : (o : Outcome Place) → e ≡ endOf o → Moves o → d ≡ landed 0 o → record { at = d .at; refused = d .refused } ≡ stop (then o (λ a next. repeated readEntry n s next))
+      by (got a next) i m j = absurd (m (sym i ∙ k))
+      by (refused m p) i _ j = rw j
 
-pub walk-ended : (s : List ℕ) (at left : ℕ) → left ≡ 0 → (told s (walked at 0 0) ≡ stop (repeated readEntry left s at)) × Stopped s (walked at 0 0) × (walked at 0 0 .refused ≡ 0)
+pub walk-ended : (s : List ℕ) (at left : ℕ) → left ≡ 0 → record { at = at; refused = 0 } ≡ stop (repeated readEntry left s at)
 unfolding repeated
-walk-ended s at left e = (rw e, λ z. absurd (z refl), refl)
+walk-ended s at left e = rw e
 
 -- A cursor at the end of the walk.
 pub walk-landed : (s : List ℕ) (count : ℕ) (c : Cursor) (t : Stop) → c .refused ≡ 0 → t ≡ stop (repeated readEntry count s (c .at)) → cursor (c .base) (t .at) (t .refused) ≡ ends readEntry count s c
 walk-landed s count c t z h = rw (fresh (repeated readEntry count) s c z) (landed-at (c .base) (repeated readEntry count s (c .at)) t h)
-
--- The number is asked of the entry that is refused.
-module _ (s : List ℕ) (w : Walked) where
-  pub told-there : w .left ≡ 0 → record { at = w .at; refused = w .refused } ≡ told s w
-  told-there z = rw (eq-eqb _ _ z)
-
-  pub told-asked : (c d : Cursor) → (w .left ≡ 0 → ⊥) → c ≡ cursor 0 (w .at) 0 → d ≡ landed (c .base) (from readEntry s c) → record { at = d .at; refused = d .refused } ≡ told s w
-  told-asked c d z f g = rw (ne-eqb _ _ z) (by (readEntry s (w .at)) (rw f at g ∙ ap (landed 0) (fresh readEntry s (cursor 0 (w .at) 0) refl)))
-    where
-      by : (o : Outcome Place) → d ≡ landed 0 o → record { at = d .at; refused = d .refused } ≡ stop o
-      by (got a next) j = rw j
-      by (refused n p) j = rw j
 
 -- Records equals entries, and behind the entries there is nothing.
 module _ (entries records recordsAt : ℕ) (s : List ℕ) (start : ℕ) where
@@ -164,7 +148,7 @@ module _ (entries records recordsAt : ℕ) (s : List ℕ) (start : ℕ) where
   unfolding entriesFrom
   records-differ r = rw (ne-eqb _ _ r)
 
-  module _ (r : records ≡ entries) (w : Walked) (i : told s w ≡ stop (repeated readEntry entries s start)) (k : Stopped s w × (w .refused ≡ 0)) where
+  module _ (r : records ≡ entries) (e : Stop) (i : e ≡ stop (repeated readEntry entries s start)) where
     used : Outcome Unit → Outcome Unit
     used o = then o (λ _ last. refuseIf (ltb last (length s)) bytesLeft last (got tt last))
 
@@ -172,27 +156,33 @@ module _ (entries records recordsAt : ℕ) (s : List ℕ) (start : ℕ) where
     unfolding entriesFrom used
     entries-are = rw (eq-eqb _ _ r)
 
-    pub entries-refused : (w .left ≡ 0 → ⊥) → Ends (told s w)
-    unfolding used
-    entries-refused z = rw entries-are (by (repeated readEntry entries s start) i)
+    -- By the outcome of the entries.
+    by-entries : (P : Outcome Unit → Type 0) → ((n p : ℕ) → (n ≡ 0 → ⊥) → e ≡ record { at = p; refused = n } → P (refused n p)) → ((last : ℕ) → e ≡ record { at = last; refused = 0 } → P (got tt last)) → P (repeated readEntry entries s start)
+    by-entries P f g = by (repeated readEntry entries s start) i (numbered-repeated readEntry numbered-entry entries s start)
       where
-        by : (o : Outcome Unit) → told s w ≡ stop o → told s w ≡ stop (used o)
-        by (got _ last) j = absurd (k .0 z (ap (λ (x : Stop). x .refused) j))
-        by (refused n p) j = j
+        by : (o : Outcome Unit) → e ≡ stop o → Numbered o → P o
+        by (got _ last) k n = g last k
+        by (refused m p) k n = f m p n k
 
-    module _ (z : w .left ≡ 0) where
-      -- All were passed.
-      passed : repeated readEntry entries s start ≡ got tt (w .at)
-      passed = by (repeated readEntry entries s start) (numbered-repeated readEntry numbered-entry entries s start) (told-there s w z ∙ i)
-        where
-          by : (o : Outcome Unit) → Numbered o → record { at = w .at; refused = w .refused } ≡ stop o → o ≡ got tt (w .at)
-          by (got _ last) n j = ap (got tt) (sym (ap (λ (x : Stop). x .at) j))
-          by (refused m p) n j = absurd (n (sym (ap (λ (x : Stop). x .refused) j) ∙ k .1))
+    pub entries-refused : (e .refused ≡ 0 → ⊥) → Ends e
+    unfolding used
+    entries-refused z =
+        rw entries-are (by-entries (λ o. e ≡ stop (used o)) (λ n p k f. f) (λ last f. absurd (z (ap (λ (x : Stop). x .refused) f))))
 
-      pub entries-left : w .at < length s → Ends (record { at = w .at; refused = bytesLeft })
+    module _ (z : e .refused ≡ 0) where
+      not-refused : {P : Type 0} {n p : ℕ} → (n ≡ 0 → ⊥) → e ≡ record { at = p; refused = n } → P
+      not-refused k f = absurd (k (ap (λ (x : Stop). x .refused) (sym f) ∙ z))
+
+      pub entries-left : e .at < length s → Ends (record { at = e .at; refused = bytesLeft })
       unfolding used
-      entries-left l = rw (entries-are, passed, lt-ltb (w .at) (length s) l)
+      entries-left l =
+          rw entries-are
+          (by-entries (λ o. record { at = e .at; refused = bytesLeft } ≡ stop (used o)) (λ n p k g. not-refused k g)
+          (λ last g. rw (g, lt-ltb last (length s) (rw g at l))))
 
-      pub entries-used : length s ≤ w .at → Ends (told s w)
+      pub entries-used : length s ≤ e .at → Ends e
       unfolding used
-      entries-used l = rw (entries-are, passed, le-ltb (w .at) (length s) l) (sym (told-there s w z) ∙ (λ j. record { at = w .at; refused = k .1 j }))
+      entries-used l =
+          rw entries-are
+          (by-entries (λ o. e ≡ stop (used o)) (λ n p k g. not-refused k g)
+          (λ last g. rw (le-ltb last (length s) (rw g at l)) g))

@@ -1,7 +1,6 @@
 -- Where reading stops; and the entries of a chunk of type 0 wherever they stand, which a reader has behind the header and a
 -- writer at the start of a part.
-use mathlib.Core.Path.{_≡_}
-use mathlib.Core.Bool.{cond, not}
+use mathlib.Core.Bool.{not}
 use mathlib.Core.List.{List}
 use Prim.Native.Nat.{ℕ}
 use lib.Dec.{eqb, ltb}
@@ -10,20 +9,11 @@ use Rattle.protocol.specs.Refusals.{valueNotAdmitted, bytesLeft}
 use Rattle.rules.specs.Outcome.{Outcome, got, refused, then, refuseIf, repeated}
 use Rattle.rules.specs.Reading.{readEntry}
 use Rattle.chunks.specs.declared.entry.Stop.{Stop}
-use Rattle.chunks.specs.declared.entry.Walked.{Walked}
 
 -- Behind what was read, with 0; or at the place at fault, with the refusal's number.
 abbrev pub stop : {A : Type 0} → Outcome A → Stop
 stop (got a next) = record { at = next; refused = 0 }
 stop (refused n at) = record { at = at; refused = n }
-
--- Where a walk over entries stopped, with the number of the entry that is refused.
-abbrev pub told : List ℕ → Walked → Stop
-told s w = cond (eqb (w .left) 0) (record { at = w .at; refused = w .refused }) (stop (readEntry s (w .at)))
-
--- It stopped in front of an entry only if that is refused.
-abbrev pub Stopped : List ℕ → Walked → Type 0
-Stopped s w = (w .left ≡ 0 → ⊥) → told s w .refused ≡ 0 → ⊥
 
 -- Records equals entries (10, at the place of records), that many entries from a place on, and nothing else (11).
 unfoldable pub entriesFrom : ℕ → ℕ → ℕ → List ℕ → ℕ → Outcome Unit

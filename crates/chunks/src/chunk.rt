@@ -1,7 +1,6 @@
 // A chunk, to the end of the part.
 ghost use mathlib.Core.Path.{_≡_};
 ghost use Prim.Native.Nat.{_+_, _≤_};
-ghost use lib.Dec.{eqb};
 ghost use lib.ListN.{length};
 ghost use Rattle.protocol.specs.Fields as F;
 ghost use Rattle.protocol.specs.Fields.{noHeader, place};
@@ -15,7 +14,6 @@ use crate::chunk_type::has_entries;
 use crate::chunk_type::is_chunk_type;
 use crate::entry::Stop;
 use crate::entry::entries_of;
-use crate::entry::stop_of;
 use fields::Cursor;
 use protocol::Chunk;
 use protocol::ChunkHeader;
@@ -60,7 +58,7 @@ pub fn chunk_field(s: &[u8], c: Cursor) -> ReadChunk
 }
 
 // Where a chunk that begins at a place ends, which is the end of s: the whole header (6), then what it says.
-fn chunk_end(s: &[u8], at: usize) -> Stop
+pub fn chunk_end(s: &[u8], at: usize) -> Stop
     ensures { λ r. ⌜ r ≡ stop (readChunk (now (s .entry)) at) ⌝ }
 {
     if s.len() < at {
@@ -76,34 +74,6 @@ fn chunk_end(s: &[u8], at: usize) -> Stop
         };
     }
     data_end(s, at)
-}
-
-// Whether a chunk that begins at a place is read, which is asked where no refusal is told: so it looks for none.
-pub fn is_chunk(s: &[u8], at: usize) -> bool
-    ensures { λ r. ⌜ r ≡ eqb (stop (readChunk (now (s .entry)) at) .refused) 0 ⌝ }
-{
-    if s.len() < at {
-        return false;
-    }
-    if s.len() - at < 48 {
-        return false;
-    }
-    let kind = number_there(s, at + 1, Width::One);
-    let len = number_there(s, at + 36, Width::Four) as usize;
-    let start = at + 48;
-    if !is_chunk_type(kind) {
-        return false;
-    }
-    if s.len() - start != len {
-        return false;
-    }
-    if !has_entries(kind) {
-        return true;
-    }
-    let entries = number_there(s, at + 2, Width::Two);
-    let records = number_there(s, at + 4, Width::Four);
-    let last = entries_of(s, start, entries, records, at + 4);
-    (last.left == 0) & (last.refused == 0)
 }
 
 // Behind the header: type (10), data present (6), data shorter than the rest (11), and for type 0 the entries.
@@ -136,7 +106,7 @@ fn data_end(s: &[u8], at: usize) -> Stop
     if has_entries(kind) {
         let entries = number_there(s, at + 2, Width::Two);
         let records = number_there(s, at + 4, Width::Four);
-        return stop_of(s, entries_of(s, start, entries, records, at + 4));
+        return entries_of(s, start, entries, records, at + 4);
     }
     Stop {
         at: s.len(),

@@ -4,7 +4,7 @@ ghost use Rattle.protocol.specs.Fields.{place};
 ghost use Rattle.rules.specs.Outcome.{repeated};
 ghost use Rattle.rules.specs.Reading.{readEntry};
 ghost use Rattle.fields.specs.Cursor.{from, landed, foundOr};
-ghost use Rattle.chunks.specs.Stops.{stop, told, Stopped, entriesFrom};
+ghost use Rattle.chunks.specs.Stops.{stop, entriesFrom};
 use fields::Cursor;
 use fields::bytes_end;
 use fields::number_of;
@@ -12,16 +12,10 @@ use protocol::Place;
 use protocol::refusal;
 use wire::Width;
 
-// Where reading stopped: behind what was read, and then `refused` is 0; or at the place at fault.
+// Where reading stopped: behind what was read, and then `refused` is 0; or at the place at fault. It is two words, which
+// come back in registers.
 pub struct Stop {
     pub at: usize,
-    pub refused: u8,
-}
-
-// Where a walk over entries stopped. Where `left` is not 0, that many are left, and the first of them is refused.
-pub struct Walked {
-    pub at: usize,
-    pub left: usize,
     pub refused: u8,
 }
 
@@ -73,7 +67,7 @@ pub fn skip_entries(s: &[u8], start: Cursor, count: usize) -> Cursor
     if start.refused != 0 {
         return start;
     }
-    let last = stop_of(s, walk(s, at, count));
+    let last = entries_end(s, at, count);
     Cursor {
         base: start.base,
         at: last.at,
@@ -82,72 +76,48 @@ pub fn skip_entries(s: &[u8], start: Cursor, count: usize) -> Cursor
 }
 
 // Records equals entries (10, at the place of records), that many entries from a place on, and nothing else (11).
-pub fn entries_of(s: &[u8], start: usize, entries: u64, records: u64, records_at: usize) -> Walked
-    ensures { λ r. ⌜ (told (now (s .entry)) r ≡ stop (entriesFrom entries records «records_at» (now (s .entry)) start)) × Stopped (now (s .entry)) r ⌝ }
+pub fn entries_of(s: &[u8], start: usize, entries: u64, records: u64, records_at: usize) -> Stop
+    ensures { λ r. ⌜ r ≡ stop (entriesFrom entries records «records_at» (now (s .entry)) start) ⌝ }
 {
     if records != entries {
-        return Walked {
+        return Stop {
             at: records_at,
-            left: 0,
             refused: refusal::VALUE_NOT_ADMITTED,
         };
     }
-    let last = walk(s, start, entries as usize);
+    let last = entries_end(s, start, entries as usize);
     let at = last.at;
-    if last.left != 0 {
+    if last.refused != 0 {
         return last;
     }
     if at < s.len() {
-        return Walked {
+        return Stop {
             at: at,
-            left: 0,
             refused: refusal::BYTES_LEFT,
         };
     }
     last
 }
 
-// Where a walk stopped, with the number of the entry that is refused.
-pub fn stop_of(s: &[u8], w: Walked) -> Stop
-    ensures { λ r. ⌜ r ≡ told (now (s .entry)) w ⌝ }
-{
-    let at = w.at;
-    if w.left == 0 {
-        return Stop {
-            at: at,
-            refused: w.refused,
-        };
-    }
-    let entry = read_entry(s, Cursor::within(at));
-    let next = entry.next;
-    Stop {
-        at: next.at,
-        refused: next.refused,
-    }
-}
-
-// Over so many entries. An entry is laid out as bytes B are, and what a negative length is there, the top bit is here: both
-// are refused. Which number that has is not looked at, which leaves the walk small enough to be inlined.
-fn walk(s: &[u8], start: usize, count: usize) -> Walked
-    ensures { λ r. ⌜ (told (now (s .entry)) r ≡ stop (repeated readEntry count (now (s .entry)) start)) × Stopped (now (s .entry)) r × (r .refused ≡ 0) ⌝ }
+// Behind so many entries. An entry is laid out as bytes B are, and what a negative length is there, the top bit is here:
+// both are refused, and which refusal it is, is asked where one is.
+fn entries_end(s: &[u8], start: usize, count: usize) -> Stop
+    ensures { λ r. ⌜ r ≡ stop (repeated readEntry count (now (s .entry)) start) ⌝ }
 {
     let mut at = start;
     let mut left = count;
     while left != 0 {
         let end = bytes_end(s, at);
         if end == 0 {
-            return Walked {
-                at: at,
-                left: left,
-                refused: 0,
+            let entry = read_entry(s, Cursor::within(at));
+            let next = entry.next;
+            return Stop {
+                at: next.at,
+                refused: next.refused,
             };
         }
         at = end;
         left -= 1;
     }
-    Walked {
-        at: at,
-        left: 0,
-        refused: 0,
-    }
+    Stop { at: at, refused: 0 }
 }

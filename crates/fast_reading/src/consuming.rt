@@ -9,7 +9,7 @@ use crate::filled::first_six;
 use crate::number;
 use crate::widened8;
 use crate::widened32;
-use chunks::is_chunk;
+use chunks::chunk_end;
 use fields::text_end;
 use lists::properties_end;
 use wire::Width;
@@ -85,7 +85,8 @@ pub fn deliver(s: &[u8], version: u64, slots: &mut [u64; 24]) -> bool
     if at == 0 {
         return false;
     }
-    if !is_chunk(s, at) {
+    let end = chunk_end(s, at);
+    if end.refused != 0 {
         return false;
     }
     let subscription_id = number(s, 0, Width::One);

@@ -14,7 +14,6 @@ ghost use Rattle.slot_fields.specs.Writing.{refusalOf, stepFlat};
 use chunks::entries_of;
 use chunks::has_entries;
 use chunks::is_chunk_type;
-use chunks::stop_of;
 use fields::Writer;
 use fields::is_outside;
 use protocol::Place;
@@ -72,8 +71,7 @@ pub fn chunk_refusal(src: &[u8], slots: &[u64], at: usize) -> u8
     let end = from + len;
     let entries = slot(slots, at, 2);
     let records = slot(slots, at, 3);
-    let data = &src[from..end];
-    let stop = stop_of(data, entries_of(data, 0, entries, records, 0));
+    let stop = entries_of(&src[from..end], 0, entries, records, 0);
     stop.refused
 }
 

@@ -30,6 +30,5 @@ data-end-spec =
     (λ c κs. search needs)
     (λ c. search needs)
     (λ c κs. search needs)
-    (λ c κs. search needs)
-    (λ c. data-entries _ _ _ _ (c .before .before .before .before .before .before .before .before .before .before .before .number-there .ensures) (c .before .before .before .before .before .before .before .before .before .before .number-there2 .ensures) (sym (c .before .before .before .before .before .before .before .before .before .is-chunk-type .ensures 0) ∙ not-false _ (c .before .before .before .before .before .before .before .before .if1 .left)) (omega (arith, c .before .before .before .before .before .before .before .before .before .before .before .before .before .pre)) _ _ _ (sym (c .before .before .before .before .before .has-entries .ensures 0) ∙ c .before .before .before .before .if4 .taken) (c .before .before .before .number-there3 .ensures) (c .before .before .number-there4 .ensures) (c .stop-of .ensures ∙ c .before .entries-of .ensures .0))
+    (λ c. data-entries _ _ _ _ (c .before .before .before .before .before .before .before .before .before .before .number-there .ensures) (c .before .before .before .before .before .before .before .before .before .number-there2 .ensures) (sym (c .before .before .before .before .before .before .before .before .is-chunk-type .ensures 0) ∙ not-false _ (c .before .before .before .before .before .before .before .if1 .left)) (omega (arith, c .before .before .before .before .before .before .before .before .before .before .before .before .pre)) _ _ _ (sym (c .before .before .before .before .has-entries .ensures 0) ∙ c .before .before .before .if4 .taken) (c .before .before .number-there3 .ensures) (c .before .number-there4 .ensures) (c .entries-of .ensures))
     (λ c. data-closed _ _ _ _ (c .before .before .before .before .before .before .before .number-there .ensures) (c .before .before .before .before .before .before .number-there2 .ensures) (sym (c .before .before .before .before .before .is-chunk-type .ensures 0) ∙ not-false _ (c .before .before .before .before .if1 .left)) (omega (arith, c .before .before .before .before .before .before .before .before .before .pre)) (sym (c .before .has-entries .ensures 0) ∙ c .if4 .left)))

@@ -1,5 +1,4 @@
 -- By records, and by where the entries end.
-use mathlib.Core.Path.{refl}
 use Rattle.chunks.proofs.Entries.{records-differ, entries-refused, entries-left, entries-used}
 use borrow.Author.Needs.{needs}
 use Rattle.chunks.proofs.entry.entries_of.Statement.{statement}
@@ -9,8 +8,8 @@ pub entries-of-spec : {M : Type 1} → statement M
 entries-of-spec =
     tie.close
     (tie.spec
-    (λ c. (records-differ _ _ _ _ _ (c .if1 .taken), λ z. absurd (z refl)))
+    (λ c. records-differ _ _ _ _ _ (c .if1 .taken))
     (λ c κs. search needs)
-    (λ c. (entries-refused _ _ _ _ _ (c .before .before .before .if1 .left) _ (c .before .before .walk .ensures .0) (c .before .before .walk .ensures .1, c .before .before .walk .ensures .2) (c .if2 .taken), c .before .before .walk .ensures .1))
-    (λ c. (entries-left _ _ _ _ _ (c .before .before .before .before .if1 .left) _ (c .before .before .before .walk .ensures .0) (c .before .before .before .walk .ensures .1, c .before .before .before .walk .ensures .2) (c .before .if2 .left) (c .if3 .taken), λ z. absurd (z refl)))
-    (λ c. (entries-used _ _ _ _ _ (c .before .before .before .before .if1 .left) _ (c .before .before .before .walk .ensures .0) (c .before .before .before .walk .ensures .1, c .before .before .before .walk .ensures .2) (c .before .if2 .left) (c .if3 .left), c .before .before .before .walk .ensures .1)))
+    (λ c. entries-refused _ _ _ _ _ (c .before .before .before .if1 .left) _ (c .before .before .entries-end .ensures) (c .if2 .taken))
+    (λ c. entries-left _ _ _ _ _ (c .before .before .before .before .if1 .left) _ (c .before .before .before .entries-end .ensures) (c .before .if2 .left) (c .if3 .taken))
+    (λ c. entries-used _ _ _ _ _ (c .before .before .before .before .if1 .left) _ (c .before .before .before .entries-end .ensures) (c .before .if2 .left) (c .if3 .left)))

@@ -1,5 +1,5 @@
 -- A refused cursor stays; another goes where the walk ends.
-use mathlib.Core.Path.{_∙_, sym}
+use mathlib.Core.Path.{sym}
 use Rattle.rules.proofs.Bounds.{numbered-entry}
 use Rattle.fields.proofs.Loops.{ends-refused}
 use Rattle.chunks.proofs.Entries.{walk-landed}
@@ -13,5 +13,4 @@ skip-entries-spec =
     (tie.spec
     (λ c. sym (ends-refused _ numbered-entry _ _ _ (c .if1 .taken)))
     (λ c κs. search needs)
-    (λ c κs. search needs)
-    (λ c. walk-landed _ _ _ _ (c .before .before .if1 .left) (c .stop-of .ensures ∙ c .before .walk .ensures .0)))
+    (λ c. walk-landed _ _ _ _ (c .before .if1 .left) (c .entries-end .ensures)))

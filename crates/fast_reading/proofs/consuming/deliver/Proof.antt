@@ -6,17 +6,16 @@ use Prim.Native.Nat.{ℕ, _+_, _≤_, _<_}
 use native.Mathlib.Omega.{arith}
 use lib.Dec.{eqb}
 use lib.ListN.{length}
-use borrow.Author.Tests.{ne-eqb, eqb-true, not-false}
+use borrow.Author.Tests.{ne-eqb, eqb-true}
 use Rattle.wire.specs.Integers.{Bytes, bigEndian}
 use Rattle.wire.specs.Signed.{signed}
 use Rattle.protocol.specs.Decision.{layout, versionsIn, ofVersion, decide}
 use Rattle.protocol.specs.Table.{table, rowIn}
-use Rattle.rules.specs.Reading.{readDecided, readField, readChunk, headerAt}
+use Rattle.rules.specs.Reading.{readDecided, readField, headerAt}
 use Rattle.slots.specs.Flat.{bits, flatHeader, padded}
 use Rattle.fast_reading.specs.Answer.{ReadsAs}
 use Rattle.chunks.specs.declared.entry.Stop.{Stop}
-use Rattle.chunks.specs.Stops.{stop}
-use Rattle.chunks.proofs.Chunks.{Whole, read-whole}
+use Rattle.chunks.proofs.Chunks.{Whole, whole}
 use Rattle.fast_reading.specs.Chunk.{chunkAt}
 use Rattle.fast_reading.proofs.Chunks.{header-slots}
 use Rattle.fast_reading.proofs.Keys.{by-key}
@@ -68,20 +67,20 @@ module _ (s old : List ℕ) (version : ℕ) where
 
 -- What is known behind the test of the chunk: the chunk, and that its header is there.
 abbrev content : tie.Else2 → List ℕ
-content c = c .before .before .before .before .before .args .s .now
+content c = c .before .before .before .before .before .before .args .s .now
 
 abbrev start : tie.Else2 → ℕ
-start c = c .before .before .before .chunk-place .result
+start c = c .before .before .before .before .chunk-place .result
 
-chunk : (c : tie.Else2) → Whole (content c) (start c) (stop (readChunk (content c) (start c)))
-chunk c = read-whole (content c) (start c) (sym (not-false _ (c .if2 .left)) ∙ c .before .is-chunk .ensures)
+chunk : (c : tie.Else2) → Whole (content c) (start c) (c .before .before .chunk-end .result)
+chunk c = whole _ _ _ (c .before .before .chunk-end .ensures) (c .if2 .left)
 
 header : (c : tie.Else2) → (start c + 48 ≤ length (content c)) × (start c + 48 < 0x1_0000_0000_0000_0000)
 header c = let h = chunk c .long in (h, omega (arith, h))
 
 known : (c : tie.Else2) → Bytes (content c)
 unfolding Bytes
-known c i = omega (arith, c .before .before .before .before .shared-slice-known .given i)
+known c i = omega (arith, c .before .before .before .before .before .shared-slice-known .given i)
 
 -- That place, from behind the fourth, the eighth and the twelfth number; and the place of the first, from behind the last.
 abbrev from-4 : tie.After-number4 → tie.Else2
@@ -119,8 +118,8 @@ header-of c =
           (c .number13 .ensures),
     )
 
-version-2 : (c : tie.Else2) → (c .before .before .before .before .before .args .version ≡ 1 → ⊥) → (c .before .before .before .before .before .args .version ≡ 2) × (start c ≡ 9)
-version-2 c = second _ _ (c .before .before .before .chunk-place .ensures) (c .before .before .if1 .left)
+version-2 : (c : tie.Else2) → (c .before .before .before .before .before .before .args .version ≡ 1 → ⊥) → (c .before .before .before .before .before .before .args .version ≡ 2) × (start c ≡ 9)
+version-2 c = second _ _ (c .before .before .before .before .chunk-place .ensures) (c .before .before .before .if1 .left)
 
 pub deliver-spec : {M : Type 1} → statement M
 unfolding padded
@@ -161,12 +160,12 @@ deliver-spec =
     (λ c.
     let n = c .before .before in
     let e = from-12 (n .before) in
-    let p = e .before .before .before in
+    let p = e .before .before .before .before in
     let a = p .before .before .args in
     first-row (a .s .now) (a .slots .now) (a .version) _ _ _ _ (header-of n .0) (known e) (c .before .if3 .taken) (p .chunk-place .ensures) (chunk e) (first-of n .number .ensures) (n .before .before .before .number10 .ensures) (header-of n .1))
     (λ c κs. let e = from-12 (c .before .before) in omega (arith, header e .0, version-2 e (c .if3 .left) .1))
     (λ c.
     let n = c .before .before .before in
     let e = from-12 (n .before) in
-    let a = e .before .before .before .before .before .args in
+    let a = e .before .before .before .before .before .before .args in
     second-row (a .s .now) (a .slots .now) (a .version) _ _ _ _ _ (header-of n .0) (known e) (version-2 e (c .before .before .if3 .left)) (chunk e) (first-of n .number .ensures) (c .before .number14 .ensures) (n .before .before .before .number10 .ensures) (header-of n .1)))

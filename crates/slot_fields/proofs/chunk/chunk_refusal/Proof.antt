@@ -34,5 +34,4 @@ chunk-refusal-spec =
     (λ c. search needs)
     (λ c. omega (arith, ends-inside (c .before .before .before .before .before .before .before .before .before .before .before .before .before .before .before .before .before .before .args .src .now) _ _ (c .before .before .before .before .before .before .before .is-outside .ensures) (c .before .before .before .before .before .before .if3 .left)))
     (λ c κs. search needs)
-    (λ c κs. search needs)
-    (λ c. data-entries (c .before .before .before .before .before .before .before .before .before .before .before .before .before .before .before .before .before .before .before .before .before .args .src .now) (drop (c .before .before .before .before .before .before .before .before .before .before .before .before .before .before .before .before .before .before .before .before .before .args .at) (c .before .before .before .before .before .before .before .before .before .before .before .before .before .before .before .before .before .before .before .before .before .args .slots .now)) _ _ _ _ (c .before .before .before .before .before .before .before .before .before .before .before .before .before .before .before .before .before .before .slot .ensures) (c .before .before .before .before .before .before .before .before .before .before .before .before .before .before .before .before .before .slot2 .ensures) (c .before .before .before .before .before .before .before .before .before .before .before .before .before .before .before .before .slot3 .ensures) (c .before .before .before .before .before .before .before .before .before .before .before .before .before .before .before .slot4 .ensures) (sym (c .before .before .before .before .before .before .before .before .before .before .before .before .before .before .is-chunk-type .ensures 7) ∙ not-false _ (c .before .before .before .before .before .before .before .before .before .before .before .before .before .if1 .left)) (sym (c .before .before .before .before .before .before .before .before .before .before .before .before .header-fits .ensures) ∙ not-false _ (c .before .before .before .before .before .before .before .before .before .before .before .if2 .left)) (sym (c .before .before .before .before .before .before .before .before .before .before .is-outside .ensures) ∙ c .before .before .before .before .before .before .before .before .before .if3 .left) (c .before .before .before .before .before .before .before .before .if4 .left) (c .before .before .before .before .before .before .before .if5 .left) _ _ _ (sym (c .before .before .before .before .before .before .has-entries .ensures 7) ∙ not-false _ (c .before .before .before .before .before .if6 .left)) (c .before .before .before .before .slot5 .ensures) (c .before .before .before .slot6 .ensures) (c .stop-of .ensures ∙ c .before .entries-of .ensures .0)))
+    (λ c. data-entries (c .before .before .before .before .before .before .before .before .before .before .before .before .before .before .before .before .before .before .before .before .args .src .now) (drop (c .before .before .before .before .before .before .before .before .before .before .before .before .before .before .before .before .before .before .before .before .args .at) (c .before .before .before .before .before .before .before .before .before .before .before .before .before .before .before .before .before .before .before .before .args .slots .now)) _ _ _ _ (c .before .before .before .before .before .before .before .before .before .before .before .before .before .before .before .before .before .slot .ensures) (c .before .before .before .before .before .before .before .before .before .before .before .before .before .before .before .before .slot2 .ensures) (c .before .before .before .before .before .before .before .before .before .before .before .before .before .before .before .slot3 .ensures) (c .before .before .before .before .before .before .before .before .before .before .before .before .before .before .slot4 .ensures) (sym (c .before .before .before .before .before .before .before .before .before .before .before .before .before .is-chunk-type .ensures 7) ∙ not-false _ (c .before .before .before .before .before .before .before .before .before .before .before .before .if1 .left)) (sym (c .before .before .before .before .before .before .before .before .before .before .before .header-fits .ensures) ∙ not-false _ (c .before .before .before .before .before .before .before .before .before .before .if2 .left)) (sym (c .before .before .before .before .before .before .before .before .before .is-outside .ensures) ∙ c .before .before .before .before .before .before .before .before .if3 .left) (c .before .before .before .before .before .before .before .if4 .left) (c .before .before .before .before .before .before .if5 .left) _ _ _ (sym (c .before .before .before .before .before .has-entries .ensures 7) ∙ not-false _ (c .before .before .before .before .if6 .left)) (c .before .before .before .slot5 .ensures) (c .before .before .slot6 .ensures) (c .entries-of .ensures)))
