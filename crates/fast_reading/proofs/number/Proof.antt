@@ -1,31 +1,20 @@
--- The number is there, and in the part it is the number in s.
-use mathlib.Core.Path.{_≡_, _∙_}
-use mathlib.Core.List.{List, []}
-use Prim.Native.Nat.{ℕ, _+_, _-_, _≤_}
+-- A number of eight bytes is two of four, one behind the other.
 use native.Mathlib.Omega.{arith}
-use lib.ListN.{length, take, drop}
 use borrow.Author.Needs.{needs}
-use Rattle.wire.specs.Integers.{bigEndian, numberOrZero}
-use Rattle.wire.proofs.Splice.{part-length}
-use Rattle.wire.proofs.Widths.{or-zero, in-part}
+use Rattle.wire.proofs.Widths.{join}
 use Rattle.fast_reading.proofs.number.Statement.{statement}
 use Rattle.fast_reading.proofs.number.Tie as tie
-
-in-whole : (n k : ℕ) (s : List ℕ) (at r : ℕ) → k ≡ n → at + n ≤ length s → r ≡ numberOrZero n (take (at + k - at) (drop at s)) 0 → r ≡ bigEndian n s at
-in-whole n k s at r e h i =
-    let m : at + k - at ≡ n = omega arith in
-    let z : at + 0 ≡ at = omega arith in
-    let l : 0 + n ≤ length (take n (drop at s)) = rw (part-length [] 0 s at n h) (omega arith) in
-    rw m at i ∙ or-zero n (take n (drop at s)) 0 l ∙ rw z at (in-part n n 0 s at (omega arith))
 
 pub number-spec : {M : Type 1} → statement M
 number-spec =
     tie.close
     (tie.spec
-    (λ c κs. search needs)
-    (λ c. omega (arith, c .bytes .ensures))
+    (λ c. search needs)
+    (λ c κs. omega (arith, rw (c .enum-told .given .1) at (c .before .before .before .pre)))
     (λ c. search needs)
     (λ c. search needs)
-    (λ c. omega (arith, c .bytes .ensures))
+    (λ c κs. omega (arith, rw (c .before .enum-told .given .1) at (c .before .before .before .before .pre)))
+    (λ c. search needs)
     (λ c κs. search needs)
-    (λ c. let b = c .before .before in in-whole _ _ _ _ _ (b .bytes .ensures) (b .before .before .pre) (c .number-or-zero .ensures)))
+    (λ c. rw (c .before .before .enum-told .given .1, c .before .part .ensures .0, c .part2 .ensures .0) (join 4 4 _ _))
+    (λ c. search needs))
