@@ -88,6 +88,29 @@ entry-end s at r e = e ∙ by (readNumber 4 s at)
     by (got x next) = same-end s at next x
     by (refused n p) = refl
 
+-- An entry that ends somewhere is read, and its message fills what is behind its four bytes.
+pub record EntryRead (s : List ℕ) (at e : ℕ) : Type 0 where
+  pub behind : at + 4 ≤ e
+  pub read : readEntry s at ≡ got (place (at + 4) (e - (at + 4))) e
+
+pub entry-read : (s : List ℕ) (at e : ℕ) → e ≡ endOf (readEntry s at) → (e ≡ 0 → ⊥) → EntryRead s at e
+unfolding readEntry readNumber sized
+entry-read s at e h k = by (ltb (length s) (at + 4)) refl h
+  where
+    sized-by : (a : Bool) → ltb (length s) (at + 4) ≡ false → leb 0x8000_0000 (bigEndian 4 s at) ≡ a → (b : Bool) → ltb (length s) (at + 4 + bigEndian 4 s at) ≡ b → e ≡ endOf (refuseIf a valueNotAdmitted at (refuseIf b fieldCut at (got (place (at + 4) (bigEndian 4 s at)) (at + 4 + bigEndian 4 s at)))) → EntryRead s at e
+    sized-by true l i b j m = absurd (k m)
+    sized-by false l i true j m = absurd (k m)
+    sized-by false l i false j m =
+        let n : e - (at + 4) ≡ bigEndian 4 s at = omega (arith, m) in
+        record { behind = omega (arith, m); read = rw (l, i, j, n, m) }
+
+    by : (t : Bool) → ltb (length s) (at + 4) ≡ t → e ≡ endOf (then (refuseIf t fieldCut at (got (bigEndian 4 s at) (at + 4))) (λ y next. sized s at y next)) → EntryRead s at e
+    by true l m = absurd (k m)
+    by false l m = sized-by (leb 0x8000_0000 (bigEndian 4 s at)) l refl (ltb (length s) (at + 4 + bigEndian 4 s at)) refl m
+
+pub entry-told : (s : List ℕ) (c : Cursor) (e : ℕ) (d : Cursor) → c .refused ≡ 0 → EntryRead s (c .at) e → d ≡ cursor (c .base) e 0 → EntryAt s c (place (c .at + 4) (e - (c .at + 4))) d
+entry-told s c e d z r f = rw (fresh readEntry s c z, r .read) (refl, f)
+
 -- Four bytes stand in front of a message, so no entry ends at 0.
 abbrev Moves : Outcome Place → Type 0
 Moves (got p next) = next ≡ 0 → ⊥

@@ -1,6 +1,6 @@
 -- A reader takes a cursor and hands one back: behind what it read, or refused. What it reads is what the definitions say.
 use mathlib.Core.Path.{_≡_}
-use mathlib.Core.Bool.{true, false, cond}
+use mathlib.Core.Bool.{Bool, true, false, cond}
 use mathlib.Core.List.{List}
 use mathlib.Core.Option.{none, some}
 use Prim.Native.Nat.{ℕ}

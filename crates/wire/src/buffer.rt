@@ -3,22 +3,17 @@ ghost use mathlib.Core.Path.{_≡_};
 ghost use Prim.Native.Nat.{_+_, _≤_};
 ghost use lib.ListN.{length, take, drop};
 ghost use Rattle.wire.specs.Buffer.{splice, copied, holds};
+use crate::room::has_room;
 
 // Puts len bytes of src, from a place of it on, at a place of out, and answers the place behind them. Where src has
 // not that many, or out no room for them, out stays as it is and the answer is the place itself.
 pub fn put_bytes(out: &mut [u8], at: usize, src: &[u8], from: usize, len: usize) -> usize
     ensures { λ r. ⌜ holds (now (out .exit)) r ≡ copied (now (out .entry)) at (now (src .entry)) from len ⌝ }
 {
-    if src.len() < from {
+    if !has_room(src.len(), from, len) {
         return at;
     }
-    if src.len() - from < len {
-        return at;
-    }
-    if out.len() < at {
-        return at;
-    }
-    if out.len() - at < len {
+    if !has_room(out.len(), at, len) {
         return at;
     }
     copy(out, at, src, from, len);

@@ -61,10 +61,7 @@ pub fn put_number(out: &mut [u8], at: usize, width: Width, v: u64) -> usize
     ensures { λ r. ⌜ holds (now (out .exit)) r ≡ put (now (out .entry)) at (digits (widthOf width) v) ⌝ }
 {
     let n = width.bytes();
-    if out.len() < at {
-        return at;
-    }
-    if out.len() - at < n {
+    if !has_room(out.len(), at, n) {
         return at;
     }
     put_big_endian(out, at, n, v);

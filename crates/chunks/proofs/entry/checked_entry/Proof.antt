@@ -2,11 +2,11 @@
 use Rattle.chunks.proofs.Entries.{there, entry-cut, entry-top-bit, entry-body-cut, entry-found}
 use native.Mathlib.Omega.{arith}
 use borrow.Author.Needs.{needs}
-use Rattle.chunks.proofs.entry.read_entry.Statement.{statement}
-use Rattle.chunks.proofs.entry.read_entry.Tie as tie
+use Rattle.chunks.proofs.entry.checked_entry.Statement.{statement}
+use Rattle.chunks.proofs.entry.checked_entry.Tie as tie
 
-pub read-entry-spec : {M : Type 1} → statement M
-read-entry-spec =
+pub checked-entry-spec : {M : Type 1} → statement M
+checked-entry-spec =
     tie.close
     (tie.spec
     (λ c κs. search needs)
