@@ -132,7 +132,7 @@ fn entries_end(s: &[u8], start: usize, count: usize) -> Stop
     while left != 0 {
         let end = bytes_end(s, at);
         if end == 0 {
-            let entry = read_entry(s, Cursor::within(at));
+            let entry = checked_entry(s, Cursor::within(at));
             let next = entry.next;
             return Stop {
                 at: next.at,

@@ -24,7 +24,7 @@ entries-end-spec =
     (λ c κs. search needs)
     (λ c κs. search needs)
     (λ c κs. search needs)
-    (λ c. walk-stopped _ _ _ (entry-end _ _ _ (c .before .before .before .before .bytes-end .ensures)) _ _ _ (c .before .before .before .before .before .loop-test .taken) (c .before .before .before .if1 .taken) (c .before .before .within .ensures) (c .before .read-entry .ensures .1) ∙ ap stop (c .before .before .before .before .before .before .loop .inv))
+    (λ c. walk-stopped _ _ _ (entry-end _ _ _ (c .before .before .before .before .bytes-end .ensures)) _ _ _ (c .before .before .before .before .before .loop-test .taken) (c .before .before .before .if1 .taken) (c .before .before .within .ensures) (c .before .checked-entry .ensures .1) ∙ ap stop (c .before .before .before .before .before .before .loop .inv))
     (λ c. search needs)
     (λ c. search needs)
     (λ c. walk-turn _ _ _ (entry-end _ _ _ (c .before .bytes-end .ensures)) _ (c .before .before .loop-test .taken) (c .if1 .left) ∙ c .before .before .before .loop .inv)
