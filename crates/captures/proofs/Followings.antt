@@ -27,7 +27,7 @@ use Rattle.frame_reading.specs.Answer.{told as read-told}
 use Rattle.frame_reading.specs.declared.reading.FrameRead.the-variants.{Frame as FrameThere}
 use Rattle.frame_reading.proofs.Told.{frame-told}
 use Rattle.captures.specs.Answer.{told}
-use Rattle.captures.specs.Following.{Next, framed, whole, cut, refused, more, nextOf, following, Rest, WindowTells, MoreIsShort, SlotsTell}
+use Rattle.captures.specs.Following.{Next, framed, whole, cut, refused, more, nextOf, following, Says, SaysWhatIsRead, Rest, WindowTells, MoreIsShort, SlotsTell}
 use Rattle.captures.specs.declared.walker.Next.{Next as Answer}
 use Rattle.captures.specs.declared.walker.Next.the-variants.{Frame, Whole, Cut, Refused, More}
 
@@ -108,6 +108,20 @@ slots-tell s old ended limit f len b e =
     let m : bigEndian 2 s 4 < 256 ^ 2 = integers 2 .range s 4 b in
     let n : bigEndian 2 s 6 < 256 ^ 2 = integers 2 .range s 6 b in
     rw r (record { key = refl; version = refl; key-fits = omega (arith, h .2, m); version-fits = omega (arith, h .3, n) })
+
+-- ---- What is said of reading
+
+pub says-what-is-read : SaysWhatIsRead
+unfolding following
+says-what-is-read [] true limit = (refl, refl)
+says-what-is-read [] false limit = (inl refl, refl)
+says-what-is-read (b ∷ s) ended limit = by (readFrame (b ∷ s) limit) refl ended
+  where
+    by : (x : Reading) → readFrame (b ∷ s) limit ≡ x → (ended : Bool) → Says (b ∷ s) ended limit (nextOf x ended (length (b ∷ s)) (frameLength (b ∷ s)))
+    by (frame f) e ended = (e, refl)
+    by (short k) e true = (e, (refl, refl))
+    by (short k) e false = (inr (k, e), refl)
+    by (refusal n p) e ended = (p, e)
 
 -- ---- What a window tells
 

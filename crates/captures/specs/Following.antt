@@ -31,6 +31,18 @@ unfoldable pub following : List ℕ → Bool → ℕ → Next
 following [] ended limit = cond ended whole more
 following (b ∷ s) ended limit = nextOf (readFrame (b ∷ s) limit) ended (length (b ∷ s)) (frameLength (b ∷ s))
 
+-- What each answer says of reading: a frame is the one that is read, and its length is Size and the four bytes of Size itself; a
+-- cut frame has the bytes that are there and needs those that reading needs; a refusal has reading's number.
+abbrev pub Says : List ℕ → Bool → ℕ → Next → Type 0
+Says s ended limit (framed f len) = (readFrame s limit ≡ frame f) × (len ≡ frameLength s)
+Says s ended limit whole = (s ≡ []) × (ended ≡ true)
+Says s ended limit (cut left needed) = (readFrame s limit ≡ short needed) × ((left ≡ length s) × (ended ≡ true))
+Says s ended limit (refused n) = (at : ℕ) × (readFrame s limit ≡ refusal n at)
+Says s ended limit more = ((s ≡ []) ⊎ ((needed : ℕ) × (readFrame s limit ≡ short needed))) × (ended ≡ false)
+
+abbrev pub SaysWhatIsRead : Type 0
+SaysWhatIsRead = (s : List ℕ) (ended : Bool) (limit : ℕ) → Says s ended limit (following s ended limit)
+
 -- What may follow a part of a capture: nothing, if the capture has ended.
 abbrev pub Rest : Bool → List ℕ → Type 0
 Rest true rest = rest ≡ []

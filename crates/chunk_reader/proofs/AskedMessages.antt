@@ -24,7 +24,7 @@ use Rattle.rules.specs.Reading.{hasEntries, readNumber, readEntry}
 use Rattle.rules.proofs.Parts.{length-part, drop-take}
 use Rattle.rules.proofs.Sound.{sound}
 use Rattle.questions.specs.Found.{messageCount, AllMessages, FieldFound, RowFound}
-use Rattle.questions.specs.Questions.{found, asked, readNth, messageAt}
+use Rattle.questions.specs.Questions.{found, asked, readNth, messageAt, messageOf}
 use Rattle.questions.proofs.Found.{everything-is-found}
 use Rattle.slots.proofs.Fields.{plain-table, of-row}
 use Rattle.chunk_reader.specs.Asked.{AskedAsRead, MessagesAreTheReaders}
@@ -152,7 +152,7 @@ module _ (s : List ℕ) (h : ChunkHeader) (p : Place) (stands : ChunkStands s h 
       ∙ nth-message bytes (messageCount h) i 48 (further 48 q) (48 + next) l there
 
   asked-for : AllMessages s h p → (i : ℕ) → i < messageCount h → messageAt s h p i ≡ found (further (p .at - 48) (messageNo bytes i))
-  unfolding messageAt
+  unfolding messageOf
   asked-for all i l = by (hasEntries (h .«chunk_type»)) refl l
     where
       by : (t : Bool) → hasEntries (h .«chunk_type») ≡ t → i < cond t (h .entries) 0 → messageAt s h p i ≡ found (further (p .at - 48) (messageNo bytes i))

@@ -2,12 +2,11 @@
 ghost use mathlib.Core.Path.{_≡_};
 ghost use mathlib.Core.Bool.{cond};
 ghost use lib.Dec.{ltb};
-ghost use Rattle.rules.specs.Reading.{hasEntries};
 ghost use Rattle.chunk_reader.specs.Messages.{isRefused, placeIn, messageIn};
 ghost use Rattle.chunk_reader.specs.Reader.{started, advanced};
-use chunks::chunk_field;
-use chunks::read_entry;
-use fields::Cursor;
+use chunks::chunk_end;
+use chunks::entry_count;
+use chunks::entry_end;
 use protocol::Place;
 
 // What a reader says.
@@ -34,9 +33,8 @@ pub struct Spot {
 pub fn start(s: &[u8]) -> Spot
     ensures { λ r. ⌜ r ≡ started (now (s .entry)) ⌝ }
 {
-    let c = chunk_field(s, Cursor::within(0));
-    let next = c.next;
-    let number = next.refused;
+    let end = chunk_end(s, 0);
+    let number = end.refused;
     if number != 0 {
         return Spot {
             at: 0,
@@ -44,13 +42,9 @@ pub fn start(s: &[u8]) -> Spot
             found: Found::Refused(number),
         };
     }
-    let chunk = c.value;
-    let header = chunk.header;
-    let kind = header.chunk_type;
-    let entries = header.entries;
     Spot {
         at: 48,
-        left: message_count(kind, entries),
+        left: entry_count(s),
         found: Found::Ready,
     }
 }
@@ -72,9 +66,8 @@ pub fn advance(s: &[u8], p: Spot) -> Spot
             found: Found::Done,
         };
     }
-    let entry = read_entry(s, Cursor::within(at));
-    let next = entry.next;
-    let number = next.refused;
+    let end = entry_end(s, at);
+    let number = end.refused;
     if number != 0 {
         return Spot {
             at: at,
@@ -82,10 +75,14 @@ pub fn advance(s: &[u8], p: Spot) -> Spot
             found: Found::Refused(number),
         };
     }
-    let behind = next.at;
-    let place = entry.value;
+    let next = end.at;
+    let first = at + 4;
+    let place = Place {
+        at: first,
+        len: next - first,
+    };
     Spot {
-        at: behind,
+        at: next,
         left: left - 1,
         found: Found::Message(place),
     }
@@ -98,16 +95,6 @@ pub fn part<'a>(s: &'a [u8], p: Spot) -> &'a [u8]
 {
     let found = p.found;
     questions::part(s, place_in(found))
-}
-
-// Types 1 and 2 stay unopened.
-fn message_count(kind: i8, entries: u16) -> usize
-    ensures { λ r. ⌜ r ≡ cond (hasEntries kind) entries 0 ⌝ }
-{
-    if kind == 0 {
-        return entries as usize;
-    }
-    0
 }
 
 // The smaller of two numbers.

@@ -9,55 +9,56 @@ use lib.Dec.{eqb, ltb}
 use lib.IntN.{ℤ}
 use lib.ListN.{length}
 use borrow.Author.Tests.{lt-ltb, le-ltb, ltb-true, ltb-false}
-use Rattle.wire.specs.Integers.{bigEndian}
+use Rattle.wire.specs.Integers.{bigEndian, numberOrZero}
 use Rattle.wire.specs.Signed.{signed}
-use Rattle.protocol.specs.Fields.{Field, noHeader, place}
+use Rattle.wire.proofs.Widths.{or-zero}
+use Rattle.protocol.specs.Fields.{place}
 use Rattle.protocol.specs.Fields as F
 use Rattle.protocol.specs.Kinds as K
 use Rattle.protocol.specs.Refusals.{fieldCut, valueNotAdmitted, bytesLeft}
-use Rattle.protocol.specs.declared.chunk.ChunkHeader.{ChunkHeader}
-use Rattle.protocol.specs.declared.place.Place.{Place}
 use Rattle.rules.specs.Outcome.{Outcome, got, refused, then, refuseIf, repeated}
-use Rattle.rules.specs.Reading.{headerAt, isChunkType, hasEntries, readEntry, readEntries, readData, readHeaded, readChunk, readField}
+use Rattle.rules.specs.Reading.{headerAt, isChunkType, hasEntries, readEntry, readEntries, readData, readHeaded, readChunk}
 use Rattle.rules.proofs.Bounds.{Numbered, numbered, Bounded, bounded-data}
-use Rattle.fields.specs.Cursor.{cursor, from, Reads}
-use Rattle.fields.specs.declared.cursor.Cursor.{Cursor}
-use Rattle.fields.proofs.Landing.{fresh, stays, refused-there, found-there}
-use Rattle.chunks.specs.Stops.{stop, entriesFrom}
-use Rattle.chunks.specs.declared.entry.Stop.{Stop}
+use Rattle.fields.specs.Stops.{stop, stopAt}
+use Rattle.fields.specs.declared.stop.Stop.{Stop}
+use Rattle.chunks.specs.Entries.{entriesFrom}
 
--- Behind the header.
-module _ (s : List ℕ) (at kind len : ℕ) (k : kind ≡ bigEndian 1 s (at + 1)) (l : len ≡ bigEndian 4 s (at + 36)) where
+-- After the header.
+module _ (s : List ℕ) (at : ℕ) (long : at + 48 ≤ length s) (kind len : ℕ) (k : kind ≡ numberOrZero 1 s (at + 1)) (l : len ≡ numberOrZero 4 s (at + 36)) where
+  -- A number that ends by the header's end is there.
+  there : (n from v : ℕ) → from + n ≤ at + 48 → v ≡ numberOrZero n s from → v ≡ bigEndian n s from
+  there n from v h e = e ∙ or-zero n s from (omega (arith, long, h))
+
   abbrev pub Headed : Stop → Type 0
   Headed d = d ≡ stop (readHeaded (headerAt s at) s at)
 
   -- The header in front changes nothing of where reading stops.
   headed : (d : Stop) → d ≡ stop (readData (signed 1 kind) (bigEndian 2 s (at + 2)) (bigEndian 4 s (at + 4)) len s at) → Headed d
-  headed d f = by (readData (signed 1 (bigEndian 1 s (at + 1))) (bigEndian 2 s (at + 2)) (bigEndian 4 s (at + 4)) (bigEndian 4 s (at + 36)) s at) (rw (k, l) at f)
+  headed d f = by (readData (signed 1 (bigEndian 1 s (at + 1))) (bigEndian 2 s (at + 2)) (bigEndian 4 s (at + 4)) (bigEndian 4 s (at + 36)) s at) (rw (there 1 (at + 1) kind (omega arith) k, there 4 (at + 36) len (omega arith) l) at f)
     where
       by : (o : Outcome Unit) → d ≡ stop o → d ≡ stop (then o (λ _ behind. got (F.chunk (headerAt s at) (place (at + 48) (headerAt s at .«data_length»))) behind))
       by (got _ last) e = e
       by (refused n p) e = e
 
-  pub type-refused : isChunkType (signed 1 kind) ≡ false → Headed (record { at = at + 1; refused = valueNotAdmitted })
+  pub type-refused : isChunkType (signed 1 kind) ≡ false → Headed (stopAt (at + 1) valueNotAdmitted)
   unfolding readData
   type-refused t = headed _ (rw t)
 
   module _ (t : isChunkType (signed 1 kind) ≡ true) where
-    pub data-cut : length s < at + 48 + len → Headed (record { at = at + 48; refused = fieldCut })
+    pub data-cut : length s < at + 48 + len → Headed (stopAt (at + 48) fieldCut)
     unfolding readData
     data-cut h = headed _ (rw (t, lt-ltb (length s) (at + 48 + len) h))
 
-    pub data-longer : at + 48 + len < length s → Headed (record { at = at + 48 + len; refused = bytesLeft })
+    pub data-longer : at + 48 + len < length s → Headed (stopAt (at + 48 + len) bytesLeft)
     unfolding readData
     data-longer h = headed _ (rw (t, le-ltb (length s) (at + 48 + len) (le-of-lt h), lt-ltb (at + 48 + len) (length s) h))
 
     module _ (h : at + 48 + len ≡ length s) where
-      pub data-entries : (d : Stop) (n m : ℕ) → hasEntries (signed 1 kind) ≡ true → n ≡ bigEndian 2 s (at + 2) → m ≡ bigEndian 4 s (at + 4) → d ≡ stop (entriesFrom n m (at + 4) s (at + 48)) → Headed d
+      pub data-entries : (d : Stop) (n m : ℕ) → hasEntries (signed 1 kind) ≡ true → n ≡ numberOrZero 2 s (at + 2) → m ≡ numberOrZero 4 s (at + 4) → d ≡ stop (entriesFrom n m (at + 4) s (at + 48)) → Headed d
       unfolding readData readEntries entriesFrom
-      data-entries d n m u i j f = headed d (rw (t, le-ltb (length s) (at + 48 + len) (le-of-eq h), le-ltb (at + 48 + len) (length s) (le-of-eq (sym h)), u) (rw (i, j) at f))
+      data-entries d n m u i j f = headed d (rw (t, le-ltb (length s) (at + 48 + len) (le-of-eq h), le-ltb (at + 48 + len) (length s) (le-of-eq (sym h)), u) (rw (there 2 (at + 2) n (omega arith) i, there 4 (at + 4) m (omega arith) j) at f))
 
-      pub data-closed : hasEntries (signed 1 kind) ≡ false → Headed (record { at = length s; refused = 0 })
+      pub data-closed : hasEntries (signed 1 kind) ≡ false → Headed (stopAt (length s) 0)
       unfolding readData
       data-closed u = headed _ (rw (t, le-ltb (length s) (at + 48 + len) (le-of-eq h), le-ltb (at + 48 + len) (length s) (le-of-eq (sym h)), u))
 
@@ -92,7 +93,7 @@ pub record Whole (s : List ℕ) (at : ℕ) (t : Stop) : Type 0 where
   pub read : readChunk s at ≡ got (F.chunk (headerAt s at) (place (at + 48) (headerAt s at .«data_length»))) (length s)
 
 module _ (s : List ℕ) (at : ℕ) where
-  pub header-cut : length s < at + 48 → record { at = at; refused = fieldCut } ≡ stop (readChunk s at)
+  pub header-cut : length s < at + 48 → stopAt at fieldCut ≡ stop (readChunk s at)
   unfolding readChunk
   header-cut l = rw (lt-ltb (length s) (at + 48) l)
 
@@ -118,34 +119,6 @@ module _ (s : List ℕ) (at : ℕ) where
         by : (o : Outcome Unit) → at + 48 ≤ length s → readChunk s at ≡ then o (λ _ behind. got (F.chunk (headerAt s at) (place (at + 48) (headerAt s at .«data_length»))) behind) → Bounded s at o → Numbered o → Used s o → Whole s at t
         by (got _ last) l i b n u =
             let k : last ≡ length s = omega (arith, b .1 (omega (arith, l)), u) in
-            let j : t ≡ record { at = last; refused = 0 } = e ∙ ap stop i in
+            let j : t ≡ stopAt last 0 = e ∙ ap stop i in
             record { long = l; ends = ap (λ (x : Stop). x .at) j ∙ k; read = i ∙ ap (got (F.chunk (headerAt s at) (place (at + 48) (headerAt s at .«data_length»)))) k }
         by (refused m p) l i b n u = absurd (n (sym (ap (λ (x : Stop). x .refused) (e ∙ ap stop i)) ∙ z))
-
--- The whole chunk, at a cursor.
-module _ (s : List ℕ) (c : Cursor) where
-  abbrev pub NotRead : Field Place → Cursor → Cursor → Type 0
-  NotRead f d e = (f ≡ F.chunk noHeader (place 0 0)) × (e ≡ d)
-
-  stopped : (n p : ℕ) (f : Field Place) (d e : Cursor) → from (readField K.chunk) s c ≡ refused n p → d ≡ cursor (c .base) p n → NotRead f d e → Reads K.chunk s c f e
-  stopped n p f d e i j k = rw (k .0, k .1) (refused-there (F.chunk noHeader (place 0 0)) (c .base) n p _ d i j)
-
-  pub chunk-refused : (f : Field Place) (e : Cursor) → (c .refused ≡ 0 → ⊥) → NotRead f c e → Reads K.chunk s c f e
-  chunk-refused f e h k = stopped (c .refused) (c .at) f c e (stays (readField K.chunk) s c h) refl k
-
-  module _ (h : c .refused ≡ 0) (t : Stop) (j : t ≡ stop (readChunk s (c .at))) where
-    chunk-is : from (readField K.chunk) s c ≡ readChunk s (c .at)
-    unfolding readField
-    chunk-is = fresh (readField K.chunk) s c h
-
-    pub chunk-stopped : (f : Field Place) (e : Cursor) → (t .refused ≡ 0 → ⊥) → NotRead f (cursor (c .base) (t .at) (t .refused)) e → Reads K.chunk s c f e
-    chunk-stopped f e z k = by (readChunk s (c .at)) chunk-is j
-      where
-        by : (o : Outcome (Field Place)) → from (readField K.chunk) s c ≡ o → t ≡ stop o → Reads K.chunk s c f e
-        by (got g last) i q = absurd (z (ap (λ (x : Stop). x .refused) q))
-        by (refused n p) i q = stopped n p f (cursor (c .base) (t .at) (t .refused)) e i (rw q) k
-
-    pub chunk-found : (g : ChunkHeader) → t .refused ≡ 0 → g ≡ headerAt s (c .at) → Reads K.chunk s c (F.chunk g (place (c .base + (c .at + 48)) (g .«data_length»))) (cursor (c .base) (t .at) (t .refused))
-    chunk-found g z i =
-        let w = whole s (c .at) t j z in
-        rw (i, z, w .ends) (found-there (F.chunk noHeader (place 0 0)) (c .base) (length s) _ _ _ (cursor (c .base) (length s) 0) (chunk-is ∙ w .read) refl refl)

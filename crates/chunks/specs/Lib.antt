@@ -1,2 +1,2 @@
 -- Chunks and their entries.
-pub mod Stops
+pub mod Entries

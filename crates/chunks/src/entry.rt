@@ -1,101 +1,30 @@
 // The entries of a chunk of type 0.
 ghost use mathlib.Core.Path.{_≡_};
-ghost use Rattle.protocol.specs.Fields.{place};
 ghost use Rattle.rules.specs.Outcome.{repeated};
 ghost use Rattle.rules.specs.Reading.{readEntry};
-ghost use Rattle.fields.specs.Cursor.{from, landed, foundOr};
-ghost use Rattle.chunks.specs.Stops.{stop, entriesFrom};
-use fields::Cursor;
-use fields::bytes_end;
-use fields::number_of;
-use protocol::Place;
+ghost use Rattle.fields.specs.Stops.{endOf, stop};
+ghost use Rattle.chunks.specs.Entries.{entriesFrom};
+use fields::Stop;
+use fields::after_bytes;
 use protocol::refusal;
 use wire::Width;
 
-// Where reading stopped: behind what was read, and then `refused` is 0; or at the place at fault. It is two words, which
-// come back in registers.
-pub struct Stop {
-    pub at: usize,
-    pub refused: u8,
-}
-
-pub struct ReadEntry {
-    // The message's place in the part.
-    pub value: Place,
-    pub next: Cursor,
-}
-
-// Four bytes (6), the top bit (10), the message (6). Where bytes B end at its place, an entry ends: so one that is read is told by
-// that alone, which is quick.
-pub fn read_entry(s: &[u8], c: Cursor) -> ReadEntry
-    ensures { λ r. ⌜ (r .value ≡ foundOr (place 0 0) (from readEntry (now (s .entry)) c)) × (r .next ≡ landed (c .base) (from readEntry (now (s .entry)) c)) ⌝ }
+// After an entry: four bytes (6), the top bit (10), the message (6).
+pub fn entry_end(s: &[u8], at: usize) -> Stop
+    ensures { λ r. ⌜ r ≡ stop (readEntry (now (s .entry)) at) ⌝ }
 {
-    let at = c.at;
-    if c.refused != 0 {
-        return checked_entry(s, c);
-    }
-    let end = bytes_end(s, at);
-    if end == 0 {
-        return checked_entry(s, c);
+    if !wire::has_room(s.len(), at, 4) {
+        return Stop::refuse(at, refusal::FIELD_CUT);
     }
     let message = at + 4;
-    ReadEntry {
-        value: Place {
-            at: message,
-            len: end - message,
-        },
-        next: c.to(end),
+    let size = wire::number_or_zero(s, at, Width::Four);
+    if 0x7fff_ffff < size {
+        return Stop::refuse(at, refusal::VALUE_NOT_ADMITTED);
     }
-}
-
-// Check by check.
-fn checked_entry(s: &[u8], c: Cursor) -> ReadEntry
-    ensures { λ r. ⌜ (r .value ≡ foundOr (place 0 0) (from readEntry (now (s .entry)) c)) × (r .next ≡ landed (c .base) (from readEntry (now (s .entry)) c)) ⌝ }
-{
-    let size = number_of(s, c, Width::Four);
-    let behind = size.next;
-    let n = size.value;
-    let none = Place { at: 0, len: 0 };
-    if behind.refused != 0 {
-        return ReadEntry {
-            value: none,
-            next: behind,
-        };
+    if ((s.len() - message) as u64) < size {
+        return Stop::refuse(at, refusal::FIELD_CUT);
     }
-    if 0x7fff_ffff < n {
-        return ReadEntry {
-            value: none,
-            next: c.refuse(refusal::VALUE_NOT_ADMITTED),
-        };
-    }
-    let at = behind.at;
-    let len = n as usize;
-    if s.len() - at < len {
-        return ReadEntry {
-            value: none,
-            next: c.refuse(refusal::FIELD_CUT),
-        };
-    }
-    ReadEntry {
-        value: Place { at: at, len: len },
-        next: behind.to(at + len),
-    }
-}
-
-// The cursor behind so many entries.
-pub fn skip_entries(s: &[u8], start: Cursor, count: usize) -> Cursor
-    ensures { λ r. ⌜ r ≡ landed (start .base) (from (repeated readEntry count) (now (s .entry)) start) ⌝ }
-{
-    let at = start.at;
-    if start.refused != 0 {
-        return start;
-    }
-    let last = entries_end(s, at, count);
-    Cursor {
-        base: start.base,
-        at: last.at,
-        refused: last.refused,
-    }
+    Stop::after(message + size as usize)
 }
 
 // Records equals entries (10, at the place of records), that many entries from a place on, and nothing else (11).
@@ -103,10 +32,7 @@ pub fn entries_of(s: &[u8], start: usize, entries: u64, records: u64, records_at
     ensures { λ r. ⌜ r ≡ stop (entriesFrom entries records «records_at» (now (s .entry)) start) ⌝ }
 {
     if records != entries {
-        return Stop {
-            at: records_at,
-            refused: refusal::VALUE_NOT_ADMITTED,
-        };
+        return Stop::refuse(records_at, refusal::VALUE_NOT_ADMITTED);
     }
     let last = entries_end(s, start, entries as usize);
     let at = last.at;
@@ -114,33 +40,52 @@ pub fn entries_of(s: &[u8], start: usize, entries: u64, records: u64, records_at
         return last;
     }
     if at < s.len() {
-        return Stop {
-            at: at,
-            refused: refusal::BYTES_LEFT,
-        };
+        return Stop::refuse(at, refusal::BYTES_LEFT);
     }
     last
 }
 
-// Behind so many entries. An entry is laid out as bytes B are, and what a negative length is there, the top bit is here:
-// both are refused, and which refusal it is, is asked where one is.
-fn entries_end(s: &[u8], start: usize, count: usize) -> Stop
+// After so many entries. Whether they are all read is told without a refusal's number, in a loop that is quick for it.
+pub fn entries_end(s: &[u8], start: usize, count: usize) -> Stop
+    ensures { λ r. ⌜ r ≡ stop (repeated readEntry count (now (s .entry)) start) ⌝ }
+{
+    let end = after_entries(s, start, count);
+    if end == 0 {
+        return checked_entries(s, start, count);
+    }
+    Stop::after(end)
+}
+
+// An entry is laid out as bytes B are, and ends where they do.
+fn after_entries(s: &[u8], start: usize, count: usize) -> usize
+    ensures { λ r. ⌜ r ≡ endOf (repeated readEntry count (now (s .entry)) start) ⌝ }
+{
+    let mut at = start;
+    let mut left = count;
+    while left != 0 {
+        let end = after_bytes(s, at);
+        if end == 0 {
+            return 0;
+        }
+        at = end;
+        left -= 1;
+    }
+    at
+}
+
+// Entry by entry, up to the one that is refused.
+fn checked_entries(s: &[u8], start: usize, count: usize) -> Stop
     ensures { λ r. ⌜ r ≡ stop (repeated readEntry count (now (s .entry)) start) ⌝ }
 {
     let mut at = start;
     let mut left = count;
     while left != 0 {
-        let end = bytes_end(s, at);
-        if end == 0 {
-            let entry = checked_entry(s, Cursor::within(at));
-            let next = entry.next;
-            return Stop {
-                at: next.at,
-                refused: next.refused,
-            };
+        let end = entry_end(s, at);
+        if end.refused != 0 {
+            return end;
         }
-        at = end;
+        at = end.at;
         left -= 1;
     }
-    Stop { at: at, refused: 0 }
+    Stop::after(at)
 }

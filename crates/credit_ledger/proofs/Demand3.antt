@@ -3,8 +3,7 @@
 use Prim.Native.Nat.{ℕ, _+_, _≤_, _<_}
 use mathlib.Core.Path.{_≡_, refl, sym, ap, _∙_, subst}
 use mathlib.Core.Logic.{_↔_}
-use mathlib.Core.Bool.{Bool, true, false, cond}
-use mathlib.Core.List.{List, [], _∷_, _++_}
+use mathlib.Core.List.{List, [], _∷_}
 use mathlib.Core.Option.{Option, none, some}
 use native.Mathlib.Omega.{arith}
 use lib.Dec.{leb}
@@ -13,14 +12,14 @@ use Rattle.protocol.specs.Refusals.{noCredit, overLimit}
 use Rattle.protocol.specs.declared.place.Place.{Place}
 use Rattle.rules.specs.Reading.{readFrame}
 use Rattle.rules.specs.Reading as rules
-use Rattle.ledger.specs.Calls.{start, add, take, stop, Purpose, forNone, forId, Answer, accepted, refused, Accepted, answerBy}
-use Rattle.ledger.specs.Rules.{Act, aside, at, purposeOf}
+use Rattle.ledger.specs.Calls.{start, add, take, stop, forId, accepted, refused, Accepted, answerBy}
+use Rattle.ledger.specs.Rules.{purposeOf}
 use Rattle.ledger.specs.History.{refusalBy, refusalIn, acceptedFor, AllWithin, Within}
-use Rattle.ledger.specs.Demand3.{history, answerIn, Demand3, Agree}
+use Rattle.ledger.specs.Demand3.{answerIn, Demand3, Agree}
 use Rattle.ledger.proofs.Demand3.{answer-if, demand3}
-use Rattle.credit_ledger.specs.Calls.{Call, opening, grant, closing, received, Yield, nothing, frame, Refusal, number, short, unread, Reply, readAnswer, deliverId}
-use Rattle.credit_ledger.specs.Step.{actOnFrame, actOnReading, act, credit}
-use Rattle.credit_ledger.specs.Demand3.{History, framePurpose, readPurpose, purpose, opening?, grants, delivers, ruleOpening, ruleGrant, ruleClosing, ruleDeliver, IdBelow, IdsBelow, NoDeliver, Answered, CreditDemand3}
+use Rattle.credit_ledger.specs.Calls.{Call, opening, grant, closing, received, nothing, frame, number, short, unread, Reply, readAnswer, deliverId}
+use Rattle.credit_ledger.specs.Step.{actOnFrame, actOnReading, credit}
+use Rattle.credit_ledger.specs.Demand3.{History, framePurpose, readPurpose, purpose, opening?, grants, delivers, ruleOpening, ruleGrant, ruleClosing, ruleDeliver, IdBelow, IdsBelow, NoDeliver, CreditDemand3}
 use Rattle.credit_ledger.proofs.Delivers.{are-delivers}
 use Rattle.credit_ledger.proofs.Ids.{small-frame-id}
 

@@ -4,7 +4,7 @@ use Prim.Native.Nat.{ℕ, _+_, _-_, _≤_, _<_}
 use mathlib.Core.Path.{_≡_, refl, sym, subst}
 use mathlib.Core.Bool.{Bool, true, false, cond}
 use mathlib.Core.List.{List, [], _∷_, map}
-use mathlib.Core.Option.{Option, none, some}
+use mathlib.Core.Option.{none, some}
 use native.Mathlib.Omega.{arith}
 use borrow.Author.Tests.{ltb-false, eqb-true}
 use lib.Dec.{eqb, ltb}
@@ -19,9 +19,8 @@ use Rattle.protocol.specs.declared.place.Place.{Place}
 use Rattle.rules.specs.Outcome.{Outcome, got, refused, then, refuseIf}
 use Rattle.rules.specs.Reading.{readNumber, readUnsigned, readField, readRow, readContent, readLayout, readDecided, readSized, readFrame, readingOf, frame, short, refusal, overLimit}
 use Rattle.rules.specs.Reading as rules
-use Rattle.ledger.specs.Calls.{forNone, forId}
 use Rattle.ledger.specs.History.{Within}
-use Rattle.credit_ledger.specs.Calls.{firstNumber, deliverId}
+use Rattle.credit_ledger.specs.Calls.{firstNumber}
 use Rattle.credit_ledger.specs.Demand3.{framePurpose, readPurpose}
 
 -- The first field of what was read is a number below 256.

@@ -1,6 +1,6 @@
 -- Demand 3 for the credit ledger, in the order of its words. The sums come from the calls and their answers: what a call
 -- is for, and what it adds to them, is said here once more and not taken from what the call does to a ledger.
-use Prim.Native.Nat.{ℕ, _+_, _≤_, _<_}
+use Prim.Native.Nat.{ℕ, _+_, _<_}
 use mathlib.Core.Path.{_≡_}
 use mathlib.Core.Logic.{_↔_, _⊎_}
 use mathlib.Core.Bool.{cond}
@@ -20,7 +20,7 @@ use Rattle.ledger.specs.Calls.{start, add, take, stop, Purpose, forNone, forId,
 use Rattle.ledger.specs.Rules.{closed, opened, empty, entryAt}
 use Rattle.ledger.specs.History as ledger
 use Rattle.ledger.specs.Demand3.{ledgerOf, history, make}
-use Rattle.credit_ledger.specs.Calls.{Call, opening, grant, closing, received, Yield, nothing, frame, Refusal, number, Reply, readAnswer, deliverId}
+use Rattle.credit_ledger.specs.Calls.{Call, opening, grant, closing, received, nothing, frame, number, Reply, readAnswer, deliverId}
 use Rattle.credit_ledger.specs.Step.{credit}
 
 -- A history: each call with its answer, the last one first.

@@ -3,7 +3,7 @@ ghost use Rattle.rules.specs.Reading.{readLayout};
 ghost use Rattle.fast_reading.specs.Answer.{ReadsAs};
 use crate::filled::first_six;
 use crate::number;
-use fields::text_end;
+use fields::after_text;
 use wire::Width;
 
 // Heartbeat has no field.
@@ -25,7 +25,7 @@ pub fn open(s: &[u8], slots: &mut [u64; 24]) -> bool
         return false;
     }
     let correlation_id = number(s, 0, Width::Four);
-    let end = text_end(s, 4);
+    let end = after_text(s, 4);
     if end != s.len() {
         return false;
     }

@@ -2,16 +2,19 @@
 ghost use mathlib.Core.Path.{_≡_};
 ghost use Rattle.protocol.specs.Decision.{decide};
 ghost use Rattle.rules.specs.Reading.{readDecided, readLayout};
-ghost use Rattle.fast_reading.specs.Answer.{ReadsAs};
+ghost use Rattle.fast_reading.specs.Answer.{Answers, ReadsAs};
 ghost use Rattle.fast_reading.specs.Chunk.{chunkAt};
 use crate::filled::first_eight;
 use crate::filled::first_six;
 use crate::number;
-use crate::widened8;
-use crate::widened32;
+use crate::reading::Fast;
 use chunks::chunk_end;
-use fields::text_end;
-use lists::properties_end;
+use fields::after_text;
+use lists::list_end;
+use protocol::Element;
+use protocol::plain_list;
+use slots::widened8;
+use slots::widened32;
 use wire::Width;
 
 // u8 u16
@@ -27,7 +30,7 @@ pub fn credit(s: &[u8], slots: &mut [u64; 24]) -> bool
     true
 }
 
-// c u8 T spec u16 [T T]
+// c u8 T spec u16 [T T]; every offset specification but type 4 is left to the general reader.
 pub fn subscribe(s: &[u8], slots: &mut [u64; 24]) -> bool
     ensures { λ r. ⌜ ReadsAs (readLayout 0x0007 1 (now (s .entry))) (now (slots .entry)) r (now (slots .exit)) ⌝ }
 {
@@ -36,7 +39,7 @@ pub fn subscribe(s: &[u8], slots: &mut [u64; 24]) -> bool
     }
     let correlation_id = number(s, 0, Width::Four);
     let subscription_id = number(s, 4, Width::One);
-    let offset = text_end(s, 5);
+    let offset = after_text(s, 5);
     if offset == 0 {
         return false;
     }
@@ -50,11 +53,12 @@ pub fn subscribe(s: &[u8], slots: &mut [u64; 24]) -> bool
     let value = number(s, offset + 2, Width::Eight);
     let credit = number(s, offset + 10, Width::Two);
     let count = number(s, offset + 12, Width::Four);
-    if 0x7fff_ffff < count {
+    let properties = offset + 16;
+    let end = list_end(s, offset + 12, plain_list(Element::Property));
+    if end.refused != 0 {
         return false;
     }
-    let properties = offset + 16;
-    if properties_end(s, properties, count as usize) != s.len() {
+    if end.at != s.len() {
         return false;
     }
     let stream_len = offset as u64 - 7;
@@ -77,27 +81,33 @@ pub fn subscribe(s: &[u8], slots: &mut [u64; 24]) -> bool
     true
 }
 
-// u8 chunk, and u8 u64 chunk in version 2.
-pub fn deliver(s: &[u8], version: u64, slots: &mut [u64; 24]) -> bool
-    ensures { λ r. ⌜ ReadsAs (readDecided (decide 0x0008 version) (now (s .entry))) (now (slots .entry)) r (now (slots .exit)) ⌝ }
+// u8 chunk, and u8 u64 chunk in version 2. Where the bytes in front of the chunk are there, its refusal is the content's.
+pub fn deliver(s: &[u8], version: u64, slots: &mut [u64; 24]) -> Fast
+    ensures { λ r. ⌜ Answers (readDecided (decide 0x0008 version) (now (s .entry))) (now (slots .entry)) r (now (slots .exit)) ⌝ }
 {
     let at = chunk_place(version);
     if at == 0 {
-        return false;
+        return Fast::Unread;
+    }
+    if s.len() < at {
+        return Fast::Unread;
     }
     let end = chunk_end(s, at);
     if end.refused != 0 {
-        return false;
+        return Fast::Refused {
+            number: end.refused,
+            at: end.at,
+        };
     }
     let subscription_id = number(s, 0, Width::One);
-    let magic = widened8(number(s, at, Width::One));
-    let kind = widened8(number(s, at + 1, Width::One));
+    let magic = widened8(number(s, at, Width::One) as u8);
+    let kind = widened8(number(s, at + 1, Width::One) as u8);
     let entries = number(s, at + 2, Width::Two);
     let records = number(s, at + 4, Width::Four);
     let timestamp = number(s, at + 8, Width::Eight);
     let epoch = number(s, at + 16, Width::Eight);
     let first_offset = number(s, at + 24, Width::Eight);
-    let checksum = widened32(number(s, at + 32, Width::Four));
+    let checksum = widened32(number(s, at + 32, Width::Four) as u32);
     let data_length = number(s, at + 36, Width::Four);
     let trailer_length = number(s, at + 40, Width::Four);
     let bloom_size = number(s, at + 44, Width::One);
@@ -129,7 +139,7 @@ pub fn deliver(s: &[u8], version: u64, slots: &mut [u64; 24]) -> bool
             0,
             0,
         ];
-        return true;
+        return Fast::Frame;
     }
     let committed_chunk_id = number(s, 1, Width::Eight);
     *slots = [
@@ -158,7 +168,7 @@ pub fn deliver(s: &[u8], version: u64, slots: &mut [u64; 24]) -> bool
         0,
         0,
     ];
-    true
+    Fast::Frame
 }
 
 // Where the chunk of a Deliver begins; 0 where no version is that.

@@ -3,8 +3,6 @@ ghost use mathlib.Core.Path.{_≡_};
 ghost use Prim.Native.Nat.{_+_, _^_, _<_, _≤_};
 ghost use lib.ListN.{length};
 ghost use Rattle.wire.specs.Integers.{bigEndian, widthOf};
-ghost use Rattle.wire.specs.Signed.{signed};
-ghost use Rattle.slots.specs.Flat.{bits};
 use wire::Width;
 
 mod connection;
@@ -13,6 +11,7 @@ mod filled;
 mod publishing;
 mod reading;
 
+pub use reading::Fast;
 pub use reading::read;
 
 // A number of a width that is there. The compiler inlines the reading of four bytes, but not that of eight.
@@ -33,19 +32,4 @@ fn part(s: &[u8], at: usize, width: Width) -> u64
 {
     let end = at + width.bytes();
     wire::number_or_zero(&s[at..end], 0, width)
-}
-
-// A signed number of one byte, and of four, as its 64 bits.
-fn widened8(x: u64) -> u64
-    requires { ⌜ x < 0x100 ⌝ }
-    ensures { λ r. ⌜ r ≡ bits (signed 1 x) ⌝ }
-{
-    wire::unsigned64(wire::signed8(x as u8) as i64)
-}
-
-fn widened32(x: u64) -> u64
-    requires { ⌜ x < 0x1_0000_0000 ⌝ }
-    ensures { λ r. ⌜ r ≡ bits (signed 4 x) ⌝ }
-{
-    wire::unsigned64(wire::signed32(x as u32) as i64)
 }

@@ -4,9 +4,12 @@ ghost use Rattle.fast_reading.specs.Answer.{ReadsAs};
 use crate::filled::first_eight;
 use crate::filled::first_six;
 use crate::number;
-use fields::reference_end;
-use fields::text_end;
-use lists::messages_end;
+use fields::after_reference;
+use fields::after_text;
+use lists::list_end;
+use lists::numbers_end;
+use protocol::Element;
+use protocol::plain_list;
 use wire::Width;
 
 // c u8 R? T; a null reference is left to the general reader.
@@ -18,11 +21,11 @@ pub fn declare_publisher(s: &[u8], slots: &mut [u64; 24]) -> bool
     }
     let correlation_id = number(s, 0, Width::Four);
     let publisher_id = number(s, 4, Width::One);
-    let stream = reference_end(s, 5);
+    let stream = after_reference(s, 5);
     if stream == 0 {
         return false;
     }
-    let end = text_end(s, stream);
+    let end = after_text(s, stream);
     if end != s.len() {
         return false;
     }
@@ -50,10 +53,11 @@ pub fn publish(s: &[u8], slots: &mut [u64; 24]) -> bool
     }
     let publisher_id = number(s, 0, Width::One);
     let count = number(s, 1, Width::Four);
-    if 0x7fff_ffff < count {
+    let end = list_end(s, 1, plain_list(Element::Message));
+    if end.refused != 0 {
         return false;
     }
-    if messages_end(s, 5, count as usize) != s.len() {
+    if end.at != s.len() {
         return false;
     }
     let len = s.len() as u64 - 5;
@@ -61,7 +65,7 @@ pub fn publish(s: &[u8], slots: &mut [u64; 24]) -> bool
     true
 }
 
-// u8 [u64]: elements of one width, which end where their count says.
+// u8 [u64]
 pub fn publish_confirm(s: &[u8], slots: &mut [u64; 24]) -> bool
     ensures { λ r. ⌜ ReadsAs (readLayout 0x0003 1 (now (s .entry))) (now (slots .entry)) r (now (slots .exit)) ⌝ }
 {
@@ -70,12 +74,14 @@ pub fn publish_confirm(s: &[u8], slots: &mut [u64; 24]) -> bool
     }
     let publisher_id = number(s, 0, Width::One);
     let count = number(s, 1, Width::Four);
-    if 0x7fff_ffff < count {
+    let end = numbers_end(s, 1, Width::Eight);
+    if end.refused != 0 {
         return false;
     }
-    if s.len() - 5 != count as usize * 8 {
+    if end.at != s.len() {
         return false;
     }
-    *slots = first_six(0x0003, 1, publisher_id, count, 13, count * 8);
+    let len = s.len() as u64 - 5;
+    *slots = first_six(0x0003, 1, publisher_id, count, 13, len);
     true
 }

@@ -1,8 +1,8 @@
-// Reading the most frequent frames straight into their slots. Each function here answers whether it has read the frame; where
-// it has not, it has touched no slot, and the general reader is asked, which knows every layout and every refusal.
+// Which layouts are read fast, by key and version. What is left unread, the general reader reads, which knows every layout and
+// every refusal.
 ghost use Rattle.protocol.specs.Decision.{decide};
 ghost use Rattle.rules.specs.Reading.{readDecided};
-ghost use Rattle.fast_reading.specs.Answer.{ReadsAs};
+ghost use Rattle.fast_reading.specs.Answer.{Answers, ReadsAs};
 use crate::connection::heartbeat;
 use crate::connection::open;
 use crate::consuming::credit;
@@ -12,16 +12,36 @@ use crate::publishing::declare_publisher;
 use crate::publishing::publish;
 use crate::publishing::publish_confirm;
 
-// A content by its key; every version but 1 is left to the general reader, but for Deliver's.
-pub fn read(s: &[u8], key: u64, version: u64, slots: &mut [u64; 24]) -> bool
-    ensures { λ r. ⌜ ReadsAs (readDecided (decide key version) (now (s .entry))) (now (slots .entry)) r (now (slots .exit)) ⌝ }
+// What became of a content. Only a frame that is read changes the slots.
+pub enum Fast {
+    // The slots are the frame's.
+    Frame,
+    // Refused, with the place of the field at fault in the content.
+    Refused { number: u8, at: usize },
+    // Left to the general reader.
+    Unread,
+}
+
+// A content by its key and version. Of Deliver both versions are read, of the others version 1.
+pub fn read(s: &[u8], key: u64, version: u64, slots: &mut [u64; 24]) -> Fast
+    ensures { λ r. ⌜ Answers (readDecided (decide key version) (now (s .entry))) (now (slots .entry)) r (now (slots .exit)) ⌝ }
 {
     if key == 0x0008 {
         return deliver(s, version, slots);
     }
     if version != 1 {
-        return false;
+        return Fast::Unread;
     }
+    if others(s, key, slots) {
+        return Fast::Frame;
+    }
+    Fast::Unread
+}
+
+// Version 1 of the others: whether the frame was read. A refusal is left to the general reader.
+fn others(s: &[u8], key: u64, slots: &mut [u64; 24]) -> bool
+    ensures { λ r. ⌜ ReadsAs (readDecided (decide key 1) (now (s .entry))) (now (slots .entry)) r (now (slots .exit)) ⌝ }
+{
     match key {
         0x0001 => declare_publisher(s, slots),
         0x0002 => publish(s, slots),

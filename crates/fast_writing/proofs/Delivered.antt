@@ -1,4 +1,4 @@
--- What a Deliver is written as, where its chunk is not refused. Assumes nothing.
+-- What a Deliver is written as: where its chunk is refused, so is the frame; and else its pieces. Assumes nothing.
 use mathlib.Core.Path.{_≡_, refl, _∙_, sym, ap}
 use mathlib.Core.List.{List, [], _∷_, _++_, append-assoc, append-nil}
 use Prim.Native.Nat.{ℕ, _+_, _≤_}
@@ -10,15 +10,17 @@ use Rattle.wire.specs.Integers.{digits}
 use Rattle.wire.specs.Signed.{unsigned}
 use Rattle.wire.proofs.Splice.{copied-there}
 use Rattle.protocol.specs.Fields.{place, bytesAt}
+use Rattle.protocol.specs.Kinds as K
 use Rattle.protocol.specs.Table.{table, rowIn}
 use Rattle.protocol.specs.declared.chunk.ChunkHeader.{ChunkHeader}
 use Rattle.protocol.specs.declared.place.Place.{Place}
 use Rattle.rules.specs.Grammar.{encodeHeader}
-use Rattle.rules.specs.Writing.{wrote}
-use Rattle.fields.specs.Writer.{behind, copiedBehind, putHeader}
+use Rattle.rules.specs.Writing.{Encoding, wrote, refuse, unwritten, writeField}
+use Rattle.fields.specs.Writer.{behind, copiedBehind, putHeader, refusalOf}
 use Rattle.fields.proofs.Encodings.{fits}
-use Rattle.slots.specs.Unflat.{slot, unflatHeader}
+use Rattle.slots.specs.Unflat.{slot, unflatField, unflatHeader}
 use Rattle.slot_fields.proofs.ChunkChecks.{ChunkWritten, chunk-length}
+use Rattle.fast_writing.specs.Answer.{writeRowOf}
 use Rattle.fast_writing.proofs.Chain.{joined, puts, number-front, Encodes}
 use Rattle.fast_writing.proofs.Encoded.{rowWritten}
 
@@ -61,3 +63,16 @@ module _ (s src : List ℕ) (id : slot s 2 ≤ 0xff) (w : ChunkWritten src (unfl
       let k : length (joined chunk) ≡ 48 + slot (drop 3 s) 13 = sym (ap length (in-pieces (unflatHeader (drop 3 s)) _)) ∙ chunk-length src (unflatHeader (drop 3 s)) (place (slot (drop 3 s) 12) (slot (drop 3 s) 13)) (w .inside) in
       let m : slot (drop 3 s) 13 ≡ slot s 16 = getD-drop 3 s 13 0 in
       record { is = deliver-written; sized = omega (arith, l, k, m) }
+
+-- ---- A chunk that is refused
+
+refused-with : (w : Encoding) (r : ℕ) → r ≡ refusalOf w → (r ≡ 0 → ⊥) → w ≡ refuse r
+refused-with (wrote b) r e z = absurd (z e)
+refused-with (refuse n) r e z = ap refuse (sym e)
+
+pub deliver-refused : (s src : List ℕ) (limit : ℕ) (out : List ℕ) (r : ℕ) → slot s 2 ≤ 0xff → r ≡ refusalOf (writeField K.chunk src (unflatField K.chunk (drop 3 s))) → (r ≡ 0 → ⊥) → writeRowOf 0x0008 1 s src limit out ≡ unwritten r out
+unfolding rowIn table
+deliver-refused s src limit out r id e z =
+    let first : slot (drop 2 s) 0 ≡ slot s 2 = getD-drop 2 s 0 0 in
+    let rest : drop 1 (drop 2 s) ≡ drop 3 s = drop-drop 1 2 s in
+    rw (first, rest, fits 1 0xff (slot s 2) (omega arith) id, refused-with (writeField K.chunk src (unflatField K.chunk (drop 3 s))) r e z)

@@ -8,10 +8,11 @@ use Rattle.rules.specs.Writing.{Writing, writeFrame}
 use Rattle.slots.specs.Unflat.{slot, unflatFrame, writeFlat}
 use Rattle.fast_writing.specs.Answer.{WritesAs, writeRowOf}
 use Rattle.fast_writing.specs.declared.writing.Fast.{Fast}
-use Rattle.fast_writing.specs.declared.writing.Fast.the-variants.{Length, Unwritten}
+use Rattle.fast_writing.specs.declared.writing.Fast.the-variants.{Length, Refused, Unwritten}
 
 pub same-writing : (w v : Writing) (old new : List ℕ) (r : Fast) → v ≡ w → WritesAs w old r new → WritesAs v old r new
 same-writing w v old new (Length n) e h = e ∙ h
+same-writing w v old new (Refused n) e h = (e ∙ h .0, h .1)
 same-writing w v old new Unwritten e h = h
 
 module _ (s src : List ℕ) (limit : ℕ) (out : List ℕ) (key : ℕ) (k : slot s 0 ≡ key) (v : slot s 1 ≡ 1) where

@@ -1,4 +1,3 @@
 -- Writing the most frequent frames.
 pub mod Answer
-pub mod Checks
 pub mod Puts

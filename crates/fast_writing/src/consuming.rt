@@ -1,7 +1,6 @@
 // Subscribe, Credit and Deliver.
 ghost use mathlib.Core.List.{[]};
 ghost use Rattle.fast_writing.specs.Answer.{WritesAs, writeRowOf};
-use crate::checks::is_part;
 use crate::puts::put_eight;
 use crate::puts::put_text;
 use crate::writing::Fast;
@@ -9,8 +8,10 @@ use fields::is_number;
 use fields::is_string;
 use frame_head::fits;
 use frame_head::put_head;
-use lists::properties_end;
+use lists::list_refusal;
+use protocol::Element;
 use protocol::Form;
+use protocol::plain_list;
 use slot_fields::chunk_refusal;
 use slot_fields::put_chunk;
 use wire::Width;
@@ -43,18 +44,7 @@ pub fn subscribe(slots: &[u64; 24], src: &[u8], limit: u32, out: &mut [u8]) -> F
     if !is_number(Width::Two, credit) {
         return Fast::Unwritten;
     }
-    if 0x7fff_ffff < count {
-        return Fast::Unwritten;
-    }
-    if !is_part(src, at, len) {
-        return Fast::Unwritten;
-    }
-    // No property is shorter than a byte, so none ends at 0.
-    if len < count {
-        return Fast::Unwritten;
-    }
-    let end = at + len;
-    if properties_end(&src[at..end], 0, count) != len {
+    if list_refusal(src, plain_list(Element::Property), count, at, len) != 0 {
         return Fast::Unwritten;
     }
     let size = 27 + stream_len + len;
@@ -100,11 +90,12 @@ pub fn deliver(slots: &[u64; 24], src: &[u8], limit: u32, out: &mut [u8]) -> Fas
 {
     let subscription_id = slots[2];
     let len = slots[16] as usize;
-    if 0xff < subscription_id {
+    if !is_number(Width::One, subscription_id) {
         return Fast::Unwritten;
     }
-    if chunk_refusal(src, slots, 3) != 0 {
-        return Fast::Unwritten;
+    let number = chunk_refusal(src, slots, 3);
+    if number != 0 {
+        return Fast::Refused(number);
     }
     let size = 53 + len;
     if !fits(limit, size, out.len()) {

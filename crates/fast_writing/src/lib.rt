@@ -1,5 +1,4 @@
 // Writing the most frequent frames straight from their slots.
-mod checks;
 mod consuming;
 mod publishing;
 mod puts;

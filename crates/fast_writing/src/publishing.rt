@@ -1,14 +1,16 @@
 // What publishers send, and what confirms it.
 ghost use Rattle.fast_writing.specs.Answer.{WritesAs, writeRowOf};
-use crate::checks::is_part;
 use crate::puts::put_text;
 use crate::writing::Fast;
 use fields::is_number;
 use fields::is_string;
 use frame_head::fits;
 use frame_head::put_head;
-use lists::messages_end;
+use lists::list_refusal;
+use lists::numbers_refusal;
+use protocol::Element;
 use protocol::Form;
+use protocol::plain_list;
 use wire::Width;
 
 // c u8 R? T
@@ -56,18 +58,7 @@ pub fn publish(slots: &[u64; 24], src: &[u8], limit: u32, out: &mut [u8]) -> Fas
     if !is_number(Width::One, publisher_id) {
         return Fast::Unwritten;
     }
-    if 0x7fff_ffff < count {
-        return Fast::Unwritten;
-    }
-    if !is_part(src, at, len) {
-        return Fast::Unwritten;
-    }
-    // No message is shorter than a byte, so none ends at 0, which is also the end where one is refused.
-    if len < count {
-        return Fast::Unwritten;
-    }
-    let end = at + len;
-    if messages_end(&src[at..end], 0, count) != len {
+    if list_refusal(src, plain_list(Element::Message), count, at, len) != 0 {
         return Fast::Unwritten;
     }
     let size = 9 + len;
@@ -81,7 +72,7 @@ pub fn publish(slots: &[u64; 24], src: &[u8], limit: u32, out: &mut [u8]) -> Fas
     Fast::Length(size as u64 + 4)
 }
 
-// u8 [u64]: elements of one width, which end where their count says.
+// u8 [u64]
 pub fn publish_confirm(slots: &[u64; 24], src: &[u8], limit: u32, out: &mut [u8]) -> Fast
     ensures { λ r. ⌜ WritesAs (writeRowOf 0x0003 1 (now (slots .entry)) (now (src .entry)) limit (now (out .entry))) (now (out .entry)) r (now (out .exit)) ⌝ }
 {
@@ -92,13 +83,7 @@ pub fn publish_confirm(slots: &[u64; 24], src: &[u8], limit: u32, out: &mut [u8]
     if !is_number(Width::One, publisher_id) {
         return Fast::Unwritten;
     }
-    if 0x7fff_ffff < count {
-        return Fast::Unwritten;
-    }
-    if !is_part(src, at, len) {
-        return Fast::Unwritten;
-    }
-    if len != count * 8 {
+    if numbers_refusal(src, Width::Eight, count, at, len) != 0 {
         return Fast::Unwritten;
     }
     let size = 9 + len;

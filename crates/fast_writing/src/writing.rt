@@ -1,6 +1,6 @@
 // Writing the most frequent frames straight from their slots. Each function here tells the frame's length once it has written the
-// frame; where it has not, it has touched no byte of the output, and the general writer is asked, which knows every layout and
-// every refusal.
+// frame, or that the frame is refused, or that it leaves the frame to the general writer, which knows every layout and every refusal.
+// Where it has not written the frame, it has touched no byte of the output.
 ghost use mathlib.Core.List.{[]};
 ghost use Rattle.slots.specs.Unflat.{writeFlat};
 ghost use Rattle.fast_writing.specs.Answer.{WritesAs, writeRowOf};
@@ -16,6 +16,7 @@ use frame_head::put_head;
 pub enum Fast {
     // The frame's length.
     Length(u64),
+    Refused(u8),
     Unwritten,
 }
 

@@ -1,11 +1,10 @@
 -- Lemmas that belong to no one function.
-pub mod Landing
-pub mod NumberFields
-pub mod StringFields
-pub mod OffsetFields
-pub mod Chains
-pub mod Loops
-pub mod PlainEnds
 pub mod Steps
+pub mod StringFields
+pub mod PlainEnds
+pub mod Stops
+pub mod NumberEnds
+pub mod Specifications
 pub mod Parts
+pub mod Checked
 pub mod Encodings

@@ -22,17 +22,13 @@ use Rattle.protocol.specs.declared.kind.Form.the-variants.{Bytes as Raw}
 use Rattle.rules.specs.Outcome.{Outcome, got, refused, then, repeated}
 use Rattle.rules.specs.Reading.{readString, readBody, readField}
 use Rattle.rules.specs.Writing.{writeString}
-use Rattle.rules.proofs.Bounds.{Numbered, Bounded, numbered-repeated}
-use Rattle.rules.proofs.Numbers.{number-there, number-cut, number-cases}
-use Rattle.fields.specs.Cursor.{cursor, landed}
-use Rattle.fields.specs.Ends.{endOf}
+use Rattle.rules.proofs.Bounds.{Bounded}
+use Rattle.rules.proofs.Numbers.{number-there, number-cases}
+use Rattle.fields.specs.Stops.{endOf}
 use Rattle.fields.specs.Writer.{refusalOf}
-use Rattle.fields.specs.declared.cursor.Cursor.{Cursor}
-use Rattle.fields.proofs.Landing.{fresh}
-use Rattle.fields.proofs.Loops.{ends}
-use Rattle.fields.proofs.StringFields.{admitted, body-cut, body-read, body-refused, body-found, negative-refused}
+use Rattle.fields.proofs.StringFields.{admitted, body-cut, body-read, body-refused, body-found, negative-refused, length-cut}
 
--- A loop over things of one sort: what is left to read from the place reached ends where the whole does.
+-- Things of one sort, one after another.
 module _ {A : Type 0} (read : List ℕ → ℕ → Outcome A) (s : List ℕ) where
   pub end-step : (n at e : ℕ) → e ≡ endOf (read s at) → (e ≡ 0 → ⊥) → endOf (repeated read (suc n) s at) ≡ endOf (repeated read n s e)
   unfolding repeated
@@ -43,7 +39,7 @@ module _ {A : Type 0} (read : List ℕ → ℕ → Outcome A) (s : List ℕ) whe
       by (refused m p) i = absurd (k i)
 
   -- What takes no bytes at 0 stays there.
-  end-stays : (a : A) → read s 0 ≡ got a 0 → (n : ℕ) → endOf (repeated read n s 0) ≡ 0
+  pub end-stays : (a : A) → read s 0 ≡ got a 0 → (n : ℕ) → repeated read n s 0 ≡ got tt 0
   unfolding repeated
   end-stays a h zero = refl
   end-stays a h (suc n) = rw h (end-stays a h n)
@@ -56,57 +52,12 @@ module _ {A : Type 0} (read : List ℕ → ℕ → Outcome A) (s : List ℕ) whe
       by (got a next) i b z =
           let at-0 : at ≡ 0 = omega (arith, b .0) in
           let next-0 : next ≡ 0 = sym z in
-          rw next-0 (sym (end-stays a (rw (at-0, next-0) at i) n))
+          rw next-0 (ap endOf (sym (end-stays a (rw (at-0, next-0) at i) n)))
       by (refused m p) i b z = refl
-
-  pub loop-start : (n at : ℕ) → endOf (repeated read (n - 0) s at) ≡ endOf (repeated read n s at)
-  loop-start n at = let e : n - 0 ≡ n = omega arith in rw e
-
-  pub loop-turn : (n i start at e : ℕ) → i < n → endOf (repeated read (n - i) s at) ≡ endOf (repeated read n s start) → e ≡ endOf (read s at) → (e ≡ 0 → ⊥) → endOf (repeated read (n - (i + 1)) s e) ≡ endOf (repeated read n s start)
-  loop-turn n i start at e l p h k =
-      let j : n - i ≡ suc (n - (i + 1)) = omega arith in
-      sym (end-step (n - (i + 1)) at e h k) ∙ rw j at p
-
-  pub loop-stopped : ((at : ℕ) → Bounded s at (read s at)) → (n i start at e : ℕ) → i < n → endOf (repeated read (n - i) s at) ≡ endOf (repeated read n s start) → e ≡ endOf (read s at) → e ≡ 0 → 0 ≡ endOf (repeated read n s start)
-  loop-stopped bounded n i start at e l p h k =
-      let j : n - i ≡ suc (n - (i + 1)) = omega arith in
-      end-refused bounded (n - (i + 1)) at e h k ∙ rw j at p
-
-  pub loop-ended : (n i start at : ℕ) → n ≤ i → endOf (repeated read (n - i) s at) ≡ endOf (repeated read n s start) → at ≡ endOf (repeated read n s start)
-  unfolding repeated
-  loop-ended n i start at l p = let j : n - i ≡ 0 = omega arith in rw j at p
-
-  -- The cursor at an end that is no 0.
-  pub end-landed : (n e : ℕ) (c d : Cursor) → c .refused ≡ 0 → e ≡ endOf (repeated read n s (c .at)) → (e ≡ 0 → ⊥) → d ≡ cursor (c .base) e 0 → d ≡ ends read n s c
-  end-landed n e c d z h k f = rw (fresh (repeated read n) s c z) (by (repeated read n s (c .at)) h)
-    where
-      by : (o : Outcome Unit) → e ≡ endOf o → d ≡ landed (c .base) o
-      by (got a next) i = f ∙ ap (λ (x : ℕ). cursor (c .base) x 0) i
-      by (refused m p) i = absurd (k i)
-
-  -- The end where a loop that carries a cursor leaves it.
-  module _ (numbered : (t : List ℕ) (at : ℕ) → Numbered (read t at)) (n at : ℕ) (c d : Cursor) (f : c ≡ cursor 0 at 0) (g : d ≡ ends read n s c) where
-    arrived : d ≡ landed 0 (repeated read n s at)
-    arrived = g ∙ ap (ends read n s) f ∙ ap (landed 0) (fresh (repeated read n) s (cursor 0 at 0) refl)
-
-    pub end-walked : d .refused ≡ 0 → d .at ≡ endOf (repeated read n s at)
-    end-walked h = by (repeated read n s at) (numbered-repeated read numbered n s at) arrived
-      where
-        by : (o : Outcome Unit) → Numbered o → d ≡ landed 0 o → d .at ≡ endOf o
-        by (got a next) k i = ap (λ (x : Cursor). x .at) i
-        by (refused m p) k i = absurd (k (sym (ap (λ (x : Cursor). x .refused) i) ∙ h))
-
-    pub end-stopped : (d .refused ≡ 0 → ⊥) → 0 ≡ endOf (repeated read n s at)
-    end-stopped h = by (repeated read n s at) arrived
-      where
-        by : (o : Outcome Unit) → d ≡ landed 0 o → 0 ≡ endOf o
-        by (got a next) i = absurd (h (ap (λ (x : Cursor). x .refused) i))
-        by (refused m p) i = refl
 
 -- A byte string that may not be null.
 pub string-no-length : (form : Form) (s : List ℕ) (at : ℕ) → length s < at + lengthWidth form → 0 ≡ endOf (readString form false s at)
-unfolding readString
-string-no-length form s at h = rw (number-cut (lengthWidth form) s at h)
+string-no-length form s at h = ap endOf (sym (length-cut form false s at h))
 
 pub negative-end : (form : Form) (s : List ℕ) (at k next : ℕ) → endOf (readBody form false s at (negsuc k) next) ≡ 0
 negative-end form s at k next = rw (negative-refused form s at k next)

@@ -1,35 +1,33 @@
 -- A byte string is read as it is written: the same checks in the same order. So the code asks one function why it is
 -- refused, and what is read or written follows from the answer. Assumes nothing.
 use mathlib.Core.Path.{_≡_, refl, _∙_, sym, ap}
-use mathlib.Core.Bool.{Bool, true, false, not}
-use mathlib.Core.List.{List, _++_}
+use mathlib.Core.Bool.{Bool, true, false, not, _&&_, false≢true}
+use mathlib.Core.List.{List, [], _++_}
 use mathlib.Core.Option.{none, some}
 use Prim.Native.Nat.{ℕ, zero, suc, _+_, _-_, _/_, _^_, _<_, _≤_}
 use native.Mathlib.Omega.{arith}
 use lib.Dec.{eqb, ltb, leb, lit<, lit≤}
 use lib.IntN.{pos, negsuc}
 use lib.ListN.{length, take, drop}
-use borrow.Author.Tests.{lt-ltb, le-ltb, lt-leb, ltb-true, ltb-false, leb-true, leb-false, eqb-true, not-false}
-use Rattle.wire.specs.Integers.{Bytes, digits}
+use borrow.Author.Tests.{lt-ltb, le-ltb, lt-leb, ltb-true, ltb-false, leb-true, leb-false, eqb-true, eqb-false, not-false}
+use Rattle.wire.specs.Integers.{Bytes, bigEndian, digits, numberOrZero}
 use Rattle.wire.specs.Signed.{signed}
 use Rattle.wire.proofs.TwosComplement.{below-half, above-half, minus-one, below-minus-one}
+use Rattle.wire.proofs.Widths.{integers, or-zero}
 use Rattle.protocol.specs.Fields.{Field, place}
 use Rattle.protocol.specs.Fields as F
 use Rattle.protocol.specs.Kinds.{lengthWidth}
-use Rattle.protocol.specs.Kinds as K
 use Rattle.protocol.specs.Refusals.{fieldCut, badLength, notUtf8, referenceTooLong}
 use Rattle.protocol.specs.declared.kind.Form.{Form}
 use Rattle.protocol.specs.declared.kind.Form.the-variants.{Text, Reference, Bytes as Raw}
 use Rattle.protocol.specs.declared.place.Place.{Place}
-use Rattle.rules.specs.Outcome.{Outcome, got, refused, then, refuseIf}
-use Rattle.rules.specs.Reading.{readNumber, readString, readBody, readField, tooLong, isText}
+use Rattle.rules.specs.Outcome.{Outcome, got, refused, refuseIf}
+use Rattle.rules.specs.Reading.{readString, readBody, tooLong, isText}
 use Rattle.rules.specs.Writing.{Encoding, wrote, refuse, checked, writeString}
-use Rattle.rules.proofs.Bounds.{numbered-field}
-use Rattle.fields.specs.Cursor.{cursor, from, foundOr, Reads}
+use Rattle.rules.proofs.Numbers.{number-there, number-cut}
 use Rattle.fields.specs.Writer.{refusalOf}
-use Rattle.fields.specs.declared.cursor.Cursor.{Cursor}
-use Rattle.fields.proofs.Landing.{by-refused, from-then, refused-there, found-there, found-with, missing-with, numbered-from}
-use Rattle.fields.proofs.NumberFields.{NumberAt, below, number-found, number-refused, then-refused, then-found}
+use Rattle.fields.proofs.Checked.{check-passed}
+use Rattle.fields.proofs.Steps.{refused-as}
 
 -- ---- The lengths of each form
 
@@ -49,6 +47,22 @@ module _ (form : Form) (most len : ℕ) (e : most ≡ 256 ^ lengthWidth form / 2
 
   pub not-negative : len ≤ most → len < 256 ^ lengthWidth form / 2
   not-negative h = omega (arith, some-length form)
+
+-- What the refusal of a length, or 0, tells of a byte string that has it.
+module _ (form : Form) (s : List ℕ) (at len r : ℕ) (e : r ≡ refusalOf (checked (leb (256 ^ lengthWidth form / 2) len) badLength (checked (tooLong form len) referenceTooLong (wrote [])))) where
+  pub length-refused : (r ≡ 0 → ⊥) → r ≡ refusalOf (writeString form false s (some (place at len)))
+  unfolding writeString
+  length-refused z = by (leb (256 ^ lengthWidth form / 2) len) (tooLong form len) _ e
+    where
+      by : (t u : Bool) (rest : Encoding) → r ≡ refusalOf (checked t badLength (checked u referenceTooLong (wrote []))) → r ≡ refusalOf (checked t badLength (checked u referenceTooLong rest))
+      by true u rest i = i
+      by false true rest i = i
+      by false false rest i = absurd (z i)
+
+  pub length-passed : r ≡ 0 → (len < 256 ^ lengthWidth form / 2) × (tooLong form len ≡ false)
+  length-passed z =
+      let long = check-passed (leb (256 ^ lengthWidth form / 2) len) badLength _ (λ k. omega (arith, k)) (sym e ∙ z) in
+      (leb-false _ _ (long .0), check-passed (tooLong form len) referenceTooLong (wrote []) (λ k. omega (arith, k)) (long .1) .0)
 
 pub narrow : (form : Form) → lengthWidth form ≤ 4
 narrow Text = lit≤ tt
@@ -126,11 +140,7 @@ module _ (form : Form) (s : List ℕ) (at len : ℕ) where
 
   module _ (r : ℕ) (e : r ≡ refusalOf encoding) where
     pub refused-by : (r ≡ 0 → ⊥) → encoding ≡ refuse r
-    refused-by h = by encoding e
-      where
-        by : (x : Encoding) → r ≡ refusalOf x → x ≡ refuse r
-        by (wrote b) i = absurd (h i)
-        by (refuse n) i = ap refuse (sym i)
+    refused-by h = refused-as encoding r e h
 
     pub body-refused : (start : ℕ) → (r ≡ 0 → ⊥) → readBody form false s start (signed (lengthWidth form) len) at ≡ refused r start
     body-refused start h = body-as start ∙ ap (read-as start) (refused-by h)
@@ -139,35 +149,6 @@ module _ (form : Form) (s : List ℕ) (at len : ℕ) where
     body-found nullable start h =
         let a = admitted (sym e ∙ h) in
         rw (below-half (lengthWidth form) len (a .short)) (body-read form nullable s start at len (a .limit) (a .inside) (a .text))
-
--- ---- A field that is not null
-
-module _ (form : Form) (s : List ℕ) (c : Cursor) (v : ℕ) (d : Cursor) (a : NumberAt (lengthWidth form) s c v d) where
-  behind-length : List ℕ → ℕ → ℕ → ℕ → Outcome (Field Place)
-  behind-length t at x next = readBody form false t at (signed (lengthWidth form) x) next
-
-  abbrev blank : Field Place
-  blank = F.string (some (place 0 0))
-
-  pub string-cut : (d .refused ≡ 0 → ⊥) → Reads (K.string form false) s c blank d
-  unfolding readField readString behind-length
-  string-cut h =
-      refused-there blank (c .base) (d .refused) (d .at) _ d
-      (then-refused (lengthWidth form) s c v d a behind-length h)
-      (number-refused (lengthWidth form) s c v d a h .1)
-
-  module _ (there : d .refused ≡ 0) (r : ℕ) (e : r ≡ refusalOf (writeString form false s (some (place (d .at) v)))) where
-    string-behind : from (readString form false) s c ≡ readBody form false s (c .at) (signed (lengthWidth form) v) (d .at)
-    unfolding readString behind-length
-    string-behind = then-found (lengthWidth form) s c v d a behind-length there
-
-    pub string-refused : (f : Cursor) → (r ≡ 0 → ⊥) → f ≡ cursor (c .base) (c .at) r → Reads (K.string form false) s c blank f
-    unfolding readField
-    string-refused f h i = refused-there blank (c .base) r (c .at) _ f (string-behind ∙ body-refused form s (d .at) v r e (c .at) h) i
-
-    pub string-found : (f : Cursor) → r ≡ 0 → f ≡ cursor (c .base) (d .at + v) 0 → Reads (K.string form false) s c (F.string (some (place (c .base + d .at) v))) f
-    unfolding readField
-    string-found f h i = found-there blank (c .base) (d .at + v) _ _ _ f (string-behind ∙ body-found form s (d .at) v r e false (c .at) h) refl i
 
 -- ---- Null
 
@@ -181,52 +162,55 @@ length-below Text v = below-minus-one 1 v
 length-below Reference v = below-minus-one 1 v
 length-below Raw v = below-minus-one 3 v
 
-module _ (form : Form) (s : List ℕ) (c : Cursor) (v : ℕ) (d : Cursor) (a : NumberAt (lengthWidth form) s c v d) where
-  abbrev null-length : ℕ
-  null-length = 256 ^ lengthWidth form - 1
+-- ---- A byte string at a place
 
-  -- Length -1: a number that is not there is 0.
-  pub null-found : v ≡ null-length → Reads (K.string form true) s c (F.string none) d
-  unfolding readField readString readBody
-  null-found e = by-refused d found (λ h. absurd (omega (arith, some-length form, e, missing (from (readNumber (lengthWidth form)) s c) (a .0) (number-refused (lengthWidth form) s c v d a h .0))))
+pub length-cut : (form : Form) (nullable : Bool) (s : List ℕ) (at : ℕ) → length s < at + lengthWidth form → readString form nullable s at ≡ refused fieldCut at
+unfolding readString
+length-cut form nullable s at h = rw (number-cut (lengthWidth form) s at h)
+
+module _ (form : Form) (s : List ℕ) (at : ℕ) (there : at + lengthWidth form ≤ length s) (v : ℕ) (e : v ≡ numberOrZero (lengthWidth form) s at) where
+  abbrev body : ℕ
+  body = at + lengthWidth form
+
+  abbrev null : ℕ
+  null = 256 ^ lengthWidth form - 1
+
+  is-length : v ≡ bigEndian (lengthWidth form) s at
+  is-length = e ∙ or-zero (lengthWidth form) s at there
+
+  after-length : (nullable : Bool) → readString form nullable s at ≡ readBody form nullable s at (signed (lengthWidth form) v) body
+  unfolding readString
+  after-length nullable = rw (number-there (lengthWidth form) s at there, is-length)
+
+  pub string-null : (nullable : Bool) → (nullable && eqb v null) ≡ true → readString form nullable s at ≡ got (F.string none) body
+  unfolding readBody
+  string-null true n = rw (after-length true, length-null form v (eqb-true _ _ n))
+  string-null false n = absurd (false≢true n)
+
+  -- At every other length it makes no difference whether null is admitted.
+  same-body : Bytes s → (v ≡ null → ⊥) → readBody form true s at (signed (lengthWidth form) v) body ≡ readBody form false s at (signed (lengthWidth form) v) body
+  unfolding readBody
+  same-body b n = by (leb (256 ^ lengthWidth form / 2) v) refl (ltb (suc v) (256 ^ lengthWidth form)) refl
     where
-      missing : (o : Outcome ℕ) → v ≡ foundOr 0 o → o ≡ refused (d .refused) (d .at) → v ≡ 0
-      missing o i j = rw j at i
+      low : v < 256 ^ lengthWidth form
+      low = rw is-length (integers (lengthWidth form) .range s at b)
 
-      found : d .refused ≡ 0 → Reads (K.string form true) s c (F.string none) d
-      found h =
-          let o : from (readString form true) s c ≡ got (F.string none) (d .at) = then-found (lengthWidth form) s c v d a (λ t at x next. readBody form true t at (signed (lengthWidth form) x) next) h ∙ rw (length-null form v e) in
-          found-there (F.string none) (c .base) (d .at) _ _ _ d o refl (number-found (lengthWidth form) s c v d a h .next)
+      by : (t : Bool) → leb (256 ^ lengthWidth form / 2) v ≡ t → (u : Bool) → ltb (suc v) (256 ^ lengthWidth form) ≡ u → readBody form true s at (signed (lengthWidth form) v) body ≡ readBody form false s at (signed (lengthWidth form) v) body
+      by false f u g = rw (below-half (lengthWidth form) v (leb-false _ _ f))
+      by true f true g = rw (length-below form v (leb-true _ _ f) (ltb-true _ _ g) .1)
+      by true f false g = let k : 256 ^ lengthWidth form ≤ suc v = ltb-false _ _ g in absurd (n (omega (arith, low)))
 
-  module _ (bytes : Bytes s) (h : v ≡ null-length → ⊥) where
-    -- At every other length it makes no difference whether null is admitted.
-    same-body : (x next : ℕ) → x < 256 ^ lengthWidth form → (x ≡ null-length → ⊥) → readBody form true s (c .at) (signed (lengthWidth form) x) next ≡ readBody form false s (c .at) (signed (lengthWidth form) x) next
-    unfolding readBody
-    same-body x next l n = by (leb (256 ^ lengthWidth form / 2) x) refl (ltb (suc x) (256 ^ lengthWidth form)) refl
+  module _ (nullable : Bool) (b : Bytes s) (n : (nullable && eqb v null) ≡ false) where
+    not-null : readString form nullable s at ≡ readBody form false s at (signed (lengthWidth form) v) body
+    not-null = by nullable n
       where
-        by : (t : Bool) → leb (256 ^ lengthWidth form / 2) x ≡ t → (u : Bool) → ltb (suc x) (256 ^ lengthWidth form) ≡ u → readBody form true s (c .at) (signed (lengthWidth form) x) next ≡ readBody form false s (c .at) (signed (lengthWidth form) x) next
-        by false e u f = rw (below-half (lengthWidth form) x (leb-false _ _ e))
-        by true e true f = rw (length-below form x (leb-true _ _ e) (ltb-true _ _ f) .1)
-        by true e false f = let k : 256 ^ lengthWidth form ≤ suc x = ltb-false _ _ f in absurd (n (omega arith))
+        by : (t : Bool) → (t && eqb v null) ≡ false → readString form t s at ≡ readBody form false s at (signed (lengthWidth form) v) body
+        by true f = after-length true ∙ same-body b (eqb-false _ _ f)
+        by false f = after-length false
 
-    same-read : from (readString form true) s c ≡ from (readString form false) s c
-    unfolding readString
-    same-read =
-        rw (from-then (readNumber (lengthWidth form)) (behind true) s c, from-then (readNumber (lengthWidth form)) (behind false) s c)
-        (by (from (readNumber (lengthWidth form)) s c) (a .0) (below (lengthWidth form) s c bytes))
-      where
-        behind : Bool → List ℕ → ℕ → ℕ → ℕ → Outcome (Field Place)
-        behind nullable t at x next = readBody form nullable t at (signed (lengthWidth form) x) next
+    module _ (r : ℕ) (f : r ≡ refusalOf (writeString form false s (some (place body v)))) where
+      pub string-refused : (r ≡ 0 → ⊥) → readString form nullable s at ≡ refused r at
+      string-refused z = not-null ∙ body-refused form s body v r f at z
 
-        by : (o : Outcome ℕ) → v ≡ foundOr 0 o → foundOr 0 o < 256 ^ lengthWidth form → then o (behind true s (c .at)) ≡ then o (behind false s (c .at))
-        by (got x next) i l = same-body x next l (λ e. h (i ∙ e))
-        by (refused m at) i l = refl
-
-    module _ (f : Field Place) (e : Cursor) (r : Reads (K.string form false) s c f e) where
-      pub nullable-missing : (e .refused ≡ 0 → ⊥) → Reads (K.string form true) s c (F.string none) e
-      unfolding readField
-      nullable-missing z = rw same-read (missing-with _ _ _ _ _ _ z r)
-
-      pub nullable-found : e .refused ≡ 0 → Reads (K.string form true) s c f e
-      unfolding readField
-      nullable-found z = rw same-read (found-with _ _ _ _ _ _ (numbered-from (readField (K.string form false)) (λ t at. numbered-field (K.string form false) t at) s c) z r)
+      pub string-found : r ≡ 0 → readString form nullable s at ≡ got (F.string (some (place body v))) (body + v)
+      string-found z = not-null ∙ body-found form s body v r f false at z

@@ -1,4 +1,3 @@
--- How the readers' cursor goes with the definitions of reading.
-pub mod Cursor
-pub mod Ends
+-- How the code's answers go with the definitions of reading and writing.
+pub mod Stops
 pub mod Writer

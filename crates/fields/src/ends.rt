@@ -1,19 +1,44 @@
-// Where a byte string ends, if it is whole and admitted; 0 where it is refused. A plain place stays in a register, so a
-// loop over these is quicker than one that carries a cursor. They do not tell why something is refused.
+// Where a byte string ends, or why it is refused. As a plain place, 0 where it is refused, the answer stays in a register: so a
+// loop over these is quicker, but they do not tell why.
 ghost use mathlib.Core.Path.{_≡_};
 ghost use mathlib.Core.Bool.{false, cond};
 ghost use lib.Dec.{ltb};
 ghost use Rattle.protocol.specs.declared.kind.Form.the-variants.{Text, Reference, Bytes};
 ghost use Rattle.rules.specs.Reading.{readString};
-ghost use Rattle.fields.specs.Ends.{endOf};
+ghost use Rattle.fields.specs.Stops.{endOf, stop};
+use crate::stop::Stop;
+use crate::strings::is_null;
 use crate::strings::is_string;
 use crate::strings::length_width;
+use crate::strings::string_refusal;
 use protocol::Form;
+use protocol::refusal;
 use wire::Width;
 
-// Behind bytes B. One comparison tests the length's sign and the room, which leaves the length one load; and the place
-// behind the length is known before the length is, which leaves one sum to wait for it.
-pub fn bytes_end(s: &[u8], at: usize) -> usize
+// T, R and B, and those that may be null: the bytes of the length (6), then what it is the length of.
+pub fn string_end(s: &[u8], at: usize, form: Form, nullable: bool) -> Stop
+    ensures { λ r. ⌜ r ≡ stop (readString form nullable (now (s .entry)) at) ⌝ }
+{
+    let width = length_width(form);
+    let n = width.bytes();
+    if !wire::has_room(s.len(), at, n) {
+        return Stop::refuse(at, refusal::FIELD_CUT);
+    }
+    let body = at + n;
+    let len = wire::number_or_zero(s, at, width);
+    if nullable & is_null(s, at, form) {
+        return Stop::after(body);
+    }
+    let number = string_refusal(s, body, len as usize, form);
+    if number != 0 {
+        return Stop::refuse(at, number);
+    }
+    Stop::after(body + len as usize)
+}
+
+// B. One comparison tests the length's sign and the room, which leaves the length one load; and the place after the length is
+// known before the length is, which leaves one sum to wait for it.
+pub fn after_bytes(s: &[u8], at: usize) -> usize
     ensures { λ r. ⌜ r ≡ endOf (readString Bytes false (now (s .entry)) at) ⌝ }
 {
     if !wire::has_room(s.len(), at, 4) {
@@ -28,21 +53,21 @@ pub fn bytes_end(s: &[u8], at: usize) -> usize
     body + n as usize
 }
 
-// Behind text T.
-pub fn text_end(s: &[u8], at: usize) -> usize
+// T
+pub fn after_text(s: &[u8], at: usize) -> usize
     ensures { λ r. ⌜ r ≡ endOf (readString Text false (now (s .entry)) at) ⌝ }
 {
-    string_end(s, at, Form::Text)
+    after_string(s, at, Form::Text)
 }
 
-// Behind a reference R.
-pub fn reference_end(s: &[u8], at: usize) -> usize
+// R
+pub fn after_reference(s: &[u8], at: usize) -> usize
     ensures { λ r. ⌜ r ≡ endOf (readString Reference false (now (s .entry)) at) ⌝ }
 {
-    string_end(s, at, Form::Reference)
+    after_string(s, at, Form::Reference)
 }
 
-fn string_end(s: &[u8], at: usize, form: Form) -> usize
+fn after_string(s: &[u8], at: usize, form: Form) -> usize
     ensures { λ r. ⌜ r ≡ endOf (readString form false (now (s .entry)) at) ⌝ }
 {
     let width = length_width(form);

@@ -1,122 +1,38 @@
-// Numbers: unsigned ones of every width, i64, and Active, read and written.
+// Numbers of every width, and Active, read and written.
 ghost use mathlib.Core.List.{[]};
 ghost use mathlib.Core.Path.{_≡_};
 ghost use Prim.Native.Nat.{_-_, _^_, _<_};
 ghost use lib.Dec.{leb};
-ghost use Rattle.protocol.specs.Fields.{number, integer};
-ghost use Rattle.protocol.specs.Kinds.{unsigned, u16, u32, u64, i64, active};
-ghost use Rattle.rules.specs.Reading.{readNumber};
+ghost use Rattle.protocol.specs.Fields.{number};
+ghost use Rattle.protocol.specs.Kinds.{unsigned, active};
+ghost use Rattle.rules.specs.Reading.{readNumber, readUnsigned};
 ghost use Rattle.wire.specs.Integers.{widthOf};
-ghost use Rattle.fields.specs.Cursor.{from, landed, foundOr, Reads};
+ghost use Rattle.fields.specs.Stops.{stop};
 ghost use Rattle.fields.specs.Writer.{state, stepField};
-use crate::cursor::Cursor;
+use crate::stop::Stop;
 use crate::writer::Writer;
 use protocol::refusal;
-use wire::Number;
 use wire::Width;
 
-pub struct ReadNumber {
-    pub value: u64,
-    pub next: Cursor,
-}
-
-pub struct ReadU16 {
-    pub value: u16,
-    pub next: Cursor,
-}
-
-pub struct ReadU32 {
-    pub value: u32,
-    pub next: Cursor,
-}
-
-pub struct ReadU64 {
-    pub value: u64,
-    pub next: Cursor,
-}
-
-pub struct ReadI64 {
-    pub value: i64,
-    pub next: Cursor,
-}
-
-// A number of a width (6).
-pub fn number_of(s: &[u8], c: Cursor, width: Width) -> ReadNumber
-    ensures { λ r. ⌜ (r .value ≡ foundOr 0 (from (readNumber (widthOf width)) (now (s .entry)) c)) × (r .next ≡ landed (c .base) (from (readNumber (widthOf width)) (now (s .entry)) c)) ⌝ }
+// After a number of a width (6).
+pub fn number_end(s: &[u8], at: usize, width: Width) -> Stop
+    ensures { λ r. ⌜ r ≡ stop (readNumber (widthOf width) (now (s .entry)) at) ⌝ }
 {
-    let at = c.at;
-    if c.refused != 0 {
-        return ReadNumber { value: 0, next: c };
-    }
     let n = width.bytes();
-    match wire::number_at(s, at, width) {
-        Number::Value(v) => ReadNumber {
-            value: v,
-            next: c.to(at + n),
-        },
-        Number::Cut => ReadNumber {
-            value: 0,
-            next: c.refuse(refusal::FIELD_CUT),
-        },
+    if !wire::has_room(s.len(), at, n) {
+        return Stop::refuse(at, refusal::FIELD_CUT);
     }
+    Stop::after(at + n)
 }
 
-pub fn u16_field(s: &[u8], c: Cursor) -> ReadU16
-    ensures { λ r. ⌜ Reads u16 (now (s .entry)) c (number (r .value)) (r .next) ⌝ }
+// After a number of a width (6), admitted up to a largest value (10).
+pub fn unsigned_end(s: &[u8], at: usize, width: Width, most: u64) -> Stop
+    ensures { λ r. ⌜ r ≡ stop (readUnsigned (widthOf width) most (now (s .entry)) at) ⌝ }
 {
-    let r = number_of(s, c, Width::Two);
-    let next = r.next;
-    ReadU16 {
-        value: (r.value % 0x1_0000) as u16,
-        next: next,
+    if most < wire::number_or_zero(s, at, width) {
+        return Stop::refuse(at, refusal::VALUE_NOT_ADMITTED);
     }
-}
-
-pub fn u32_field(s: &[u8], c: Cursor) -> ReadU32
-    ensures { λ r. ⌜ Reads u32 (now (s .entry)) c (number (r .value)) (r .next) ⌝ }
-{
-    let r = number_of(s, c, Width::Four);
-    let next = r.next;
-    ReadU32 {
-        value: (r.value % 0x1_0000_0000) as u32,
-        next: next,
-    }
-}
-
-pub fn u64_field(s: &[u8], c: Cursor) -> ReadU64
-    ensures { λ r. ⌜ Reads u64 (now (s .entry)) c (number (r .value)) (r .next) ⌝ }
-{
-    let r = number_of(s, c, Width::Eight);
-    let next = r.next;
-    ReadU64 {
-        value: r.value,
-        next: next,
-    }
-}
-
-pub fn i64_field(s: &[u8], c: Cursor) -> ReadI64
-    ensures { λ r. ⌜ Reads i64 (now (s .entry)) c (integer (r .value)) (r .next) ⌝ }
-{
-    let r = number_of(s, c, Width::Eight);
-    let next = r.next;
-    ReadI64 {
-        value: wire::signed64(r.value),
-        next: next,
-    }
-}
-
-// A number of a width (6), admitted up to a largest value (10).
-pub fn unsigned_field(s: &[u8], c: Cursor, width: Width, most: u64) -> ReadNumber
-    ensures { λ r. ⌜ Reads (unsigned (widthOf width) most) (now (s .entry)) c (number (r .value)) (r .next) ⌝ }
-{
-    let r = number_of(s, c, width);
-    if most < r.value {
-        return ReadNumber {
-            value: 0,
-            next: c.refuse(refusal::VALUE_NOT_ADMITTED),
-        };
-    }
-    r
+    number_end(s, at, width)
 }
 
 // c and every other unsigned number that fills its bytes: a value too wide for them gives 10.

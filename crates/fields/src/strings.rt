@@ -1,14 +1,16 @@
 // The rule of byte strings, that is text T, references R and bytes B, for all that reads or writes them.
 ghost use mathlib.Core.Bool.{false};
+ghost use mathlib.Core.List.{[]};
 ghost use mathlib.Core.Option.{some};
 ghost use mathlib.Core.Path.{_≡_};
 ghost use Prim.Native.Nat.{_-_, _/_, _^_, _<_};
-ghost use lib.Dec.{eqb};
-ghost use Rattle.wire.specs.Integers.{widthOf};
+ghost use lib.Dec.{eqb, leb};
+ghost use Rattle.wire.specs.Integers.{numberOrZero, widthOf};
 ghost use Rattle.protocol.specs.Fields.{place};
 ghost use Rattle.protocol.specs.Kinds.{lengthWidth};
+ghost use Rattle.protocol.specs.Refusals.{badLength, referenceTooLong};
 ghost use Rattle.rules.specs.Reading.{tooLong, isText};
-ghost use Rattle.rules.specs.Writing.{writeString};
+ghost use Rattle.rules.specs.Writing.{wrote, checked, writeString};
 ghost use Rattle.fields.specs.Writer.{refusalOf};
 use protocol::Form;
 use protocol::refusal;
@@ -18,18 +20,26 @@ use wire::Width;
 pub fn is_string(s: &[u8], at: usize, len: usize, form: Form) -> bool
     ensures { λ r. ⌜ r ≡ eqb (refusalOf (writeString form false (now (s .entry)) (some (place at len)))) 0 ⌝ }
 {
-    if largest(form) < len as u64 {
-        return false;
-    }
-    if too_long(form, len) {
+    if length_refusal(form, len) != 0 {
         return false;
     }
     body_refusal(s, at, len, form) == 0
 }
 
-// Why they are none; 0 where they are one. The length (7), the reference limit (9), the body.
+// Why they are none; 0 where they are one. The length, then the body.
 pub fn string_refusal(s: &[u8], at: usize, len: usize, form: Form) -> u8
     ensures { λ r. ⌜ r ≡ refusalOf (writeString form false (now (s .entry)) (some (place at len))) ⌝ }
+{
+    let number = length_refusal(form, len);
+    if number != 0 {
+        return number;
+    }
+    body_refusal(s, at, len, form)
+}
+
+// A negative length (7), the reference limit (9).
+fn length_refusal(form: Form, len: usize) -> u8
+    ensures { λ r. ⌜ r ≡ refusalOf (checked (leb (256 ^ lengthWidth form / 2) len) badLength (checked (tooLong form len) referenceTooLong (wrote []))) ⌝ }
 {
     if largest(form) < len as u64 {
         return refusal::BAD_LENGTH;
@@ -37,10 +47,10 @@ pub fn string_refusal(s: &[u8], at: usize, len: usize, form: Form) -> u8
     if too_long(form, len) {
         return refusal::REFERENCE_TOO_LONG;
     }
-    body_refusal(s, at, len, form)
+    0
 }
 
-// The place (6), UTF-8 (8). Both functions above call it, which keeps it out of them: so they are short enough for the
+// The place (6), UTF-8 (8). `is_string` and `string_refusal` call it, which keeps it out of them: so they are short enough for the
 // compiler to test a length where it is used, and to know it from there on.
 fn body_refusal(s: &[u8], at: usize, len: usize, form: Form) -> u8
     requires { ⌜ (len < 256 ^ lengthWidth form / 2) × (tooLong form len ≡ false) ⌝ }
@@ -95,6 +105,13 @@ fn is_text(form: Form, b: &[u8]) -> bool
         Form::Reference => unicode::is_utf8(b),
         Form::Bytes => true,
     }
+}
+
+// Whether the length at a place is that of a null.
+pub fn is_null(s: &[u8], at: usize, form: Form) -> bool
+    ensures { λ r. ⌜ r ≡ eqb (numberOrZero (lengthWidth form) (now (s .entry)) at) (256 ^ lengthWidth form - 1) ⌝ }
+{
+    wire::number_or_zero(s, at, length_width(form)) == minus_one(form)
 }
 
 // The bits of length -1, which means null.

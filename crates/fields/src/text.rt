@@ -1,4 +1,4 @@
-// Byte strings: text T, references R and bytes B, and those that may be null, read and written.
+// Byte strings written: text T, references R and bytes B, and those that may be null.
 ghost use mathlib.Core.List.{[]};
 ghost use mathlib.Core.Option.{some};
 ghost use mathlib.Core.Path.{_≡_};
@@ -7,10 +7,7 @@ ghost use Rattle.protocol.specs.Frames.{nullableField, placeField};
 ghost use Rattle.protocol.specs.Kinds as K;
 ghost use Rattle.protocol.specs.declared.place.NullablePlace.the-variants.{Null};
 ghost use Rattle.rules.specs.Writing.{writeString};
-ghost use Rattle.fields.specs.Cursor.{Reads};
 ghost use Rattle.fields.specs.Writer.{state, measured, stepField};
-use crate::cursor::Cursor;
-use crate::number::number_of;
 use crate::strings::length_width;
 use crate::strings::minus_one;
 use crate::strings::string_refusal;
@@ -18,74 +15,6 @@ use crate::writer::Writer;
 use protocol::Form;
 use protocol::NullablePlace;
 use protocol::Place;
-
-pub struct ReadPlace {
-    pub value: Place,
-    pub next: Cursor,
-}
-
-pub struct ReadNullable {
-    pub value: NullablePlace,
-    pub next: Cursor,
-}
-
-// T, R and B: the bytes of the length (6), then what it is the length of.
-pub fn string_field(s: &[u8], c: Cursor, form: Form) -> ReadPlace
-    ensures { λ r. ⌜ Reads (K.string form false) (now (s .entry)) c (placeField (r .value)) (r .next) ⌝ }
-{
-    let length = number_of(s, c, length_width(form));
-    let behind = length.next;
-    if behind.refused != 0 {
-        return ReadPlace {
-            value: Place { at: 0, len: 0 },
-            next: behind,
-        };
-    }
-    let at = behind.at;
-    let len = length.value as usize;
-    let number = string_refusal(s, at, len, form);
-    if number != 0 {
-        return ReadPlace {
-            value: Place { at: 0, len: 0 },
-            next: c.refuse(number),
-        };
-    }
-    let place = Place {
-        at: c.base as usize + at,
-        len: len,
-    };
-    ReadPlace {
-        value: place,
-        next: c.to(at + len),
-    }
-}
-
-// T?, R? and B?.
-pub fn nullable_field(s: &[u8], c: Cursor, form: Form) -> ReadNullable
-    ensures { λ r. ⌜ Reads (K.string form true) (now (s .entry)) c (nullableField (r .value)) (r .next) ⌝ }
-{
-    let length = number_of(s, c, length_width(form));
-    if length.value == minus_one(form) {
-        let behind = length.next;
-        return ReadNullable {
-            value: NullablePlace::Null,
-            next: behind,
-        };
-    }
-    let r = string_field(s, c, form);
-    let place = r.value;
-    let next = r.next;
-    if next.refused != 0 {
-        return ReadNullable {
-            value: NullablePlace::Null,
-            next: next,
-        };
-    }
-    ReadNullable {
-        value: NullablePlace::At(place),
-        next: next,
-    }
-}
 
 // T?, R? and B?. Null is length -1, and has no place to look at.
 pub fn write_nullable(

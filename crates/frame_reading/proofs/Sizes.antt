@@ -1,11 +1,14 @@
 -- What the checks of Size, key and version come to. Assumes nothing.
-use mathlib.Core.Path.{_≡_, refl}
+use mathlib.Core.Path.{_≡_, _∙_}
 use mathlib.Core.Bool.{true, false}
 use mathlib.Core.List.{List}
 use Prim.Native.Nat.{ℕ, _+_, _-_, _≤_, _<_}
 use native.Mathlib.Omega.{arith}
 use lib.ListN.{length, take, drop}
+use lib.Seq.{length-take-le}
 use borrow.Author.Tests.{lt-ltb, le-ltb}
+use Rattle.wire.specs.Integers.{bigEndian}
+use Rattle.wire.proofs.Widths.{in-part}
 use Rattle.protocol.specs.Decision.{decide}
 use Rattle.protocol.specs.Refusals.{frameTooLarge, frameTooSmall}
 use Rattle.rules.specs.Reading.{refusal, short, overLimit, readSized, readDecided, readFrame}
@@ -32,12 +35,16 @@ module _ (s : List ℕ) (limit : ℕ) (head : Head) (e : head ≡ headOf s) (fou
     too-small h = rw (framed, g, lt-ltb _ _ h)
 
     module _ (h : 4 ≤ head .size) where
-      pub in-part : length s < head .size + 4 → short (head .size + 4) ≡ readFrame s limit
+      pub cut : length s < head .size + 4 → short (head .size + 4) ≡ readFrame s limit
       unfolding readSized
-      in-part i = rw (framed, g, le-ltb _ _ h, lt-ltb _ _ i)
+      cut i = rw (framed, g, le-ltb _ _ h, lt-ltb _ _ i)
 
-      pub whole : head .size + 4 ≤ length s → readDecided (decide (head .key) (head .version)) (take (head .size + 4 - 8) (drop 8 s)) ≡ readFrame s limit
+      -- Key and version are read of the frame alone.
+      pub whole : (last : ℕ) (second : Head) → last ≡ head .size + 4 → last ≤ length s → second ≡ headOf (take last s) → readDecided (decide (second .key) (second .version)) (take (last - 8) (drop 8 s)) ≡ readFrame s limit
       unfolding readSized
-      whole i =
-          let part : head .size + 4 - 8 ≡ head .size - 4 = omega arith in
-          rw (framed, g, le-ltb _ _ h, le-ltb _ _ i, part, key-there s head e (omega (arith, h, i)), version-there s head e (omega (arith, h, i)))
+      whole last second z i f =
+          let part : last - 8 ≡ head .size - 4 = omega arith in
+          let long : 8 ≤ length (take last s) = omega (arith, length-take-le last s i) in
+          let key : second .key ≡ bigEndian 2 s 4 = key-there (take last s) second f (omega (arith, long)) ∙ in-part 2 last 4 s 0 (omega arith) in
+          let version : second .version ≡ bigEndian 2 s 6 = version-there (take last s) second f long ∙ in-part 2 last 6 s 0 (omega arith) in
+          rw (framed, g, le-ltb _ _ h, le-ltb (length s) (head .size + 4) (omega arith), part, key, version)

@@ -1,15 +1,15 @@
 -- Each answer of reading into slots is told of one kind of reading only. Assumes nothing.
 use mathlib.Core.Path.{_≡_, refl, ap, _∙_}
-use mathlib.Core.Bool.{Bool, true, false, true≢false, false≢true}
 use mathlib.Core.List.{List}
-use Prim.Native.Nat.{ℕ}
+use Prim.Native.Nat.{ℕ, _+_}
 use native.Mathlib.Omega.{arith}
 use Rattle.protocol.specs.Fields.{Fields}
 use Rattle.protocol.specs.declared.place.Place.{Place}
 use Rattle.rules.specs.Answers.{readingRefusal}
 use Rattle.rules.specs.Reading.{Reading, frame, short, refusal}
 use Rattle.slots.specs.Flat.{flatFrame, slotsAfter}
-use Rattle.fast_reading.specs.Answer.{ReadsAs}
+use Rattle.fast_reading.specs.Answer as Fast
+use Rattle.fast_reading.specs.declared.reading.Fast.the-variants as fast
 use Rattle.frame_reading.specs.Answer.{told, refusalOf}
 use Rattle.frame_reading.specs.declared.reading.FrameRead.{FrameRead}
 use Rattle.frame_reading.specs.declared.reading.FrameRead.the-variants.{Frame, Short, Refused}
@@ -47,15 +47,14 @@ refused-as-read r x e = ap refusalOf e ∙ by x
 pub all-told : (reading : Reading) (old : List ℕ) (r : FrameRead) (new : List ℕ) → Answers reading old r new → (r ≡ told reading) × ((new ≡ slotsAfter old reading) × (refusalOf r ≡ readingRefusal reading))
 all-told reading old r new a = (a .0, (a .1, refused-as-read r reading (a .0)))
 
--- What the fast reader has read, and what it leaves.
-pub has-read : (reading : Reading) (old : List ℕ) (t : Bool) (new : List ℕ) → ReadsAs reading old t new → t ≡ true → Answers reading old Frame new
-has-read (frame f) old true new h e = (refl, h)
-has-read (short needed) old true new h e = absurd h
-has-read (refusal n place) old true new h e = absurd h
-has-read reading old false new h e = absurd (false≢true e)
+-- What the fast reader has read or refused, and what it leaves.
+pub has-read : (reading : Reading) (old new : List ℕ) → Fast.Answers reading old fast.Frame new → Answers reading old Frame new
+has-read reading old new (f, (e, p)) = rw e (refl, p)
 
-pub has-left : (reading : Reading) (old : List ℕ) (t : Bool) (new : List ℕ) (r : FrameRead) (last : List ℕ) → ReadsAs reading old t new → t ≡ false → Answers reading new r last → Answers reading old r last
-has-left (frame f) old false new r last h e a = a
-has-left (short needed) old false new r last h e a = (a .0, a .1 ∙ h)
-has-left (refusal n place) old false new r last h e a = (a .0, a .1 ∙ h)
-has-left reading old true new r last h e a = absurd (true≢false e)
+pub has-refused : (reading : Reading) (old : List ℕ) (n at : ℕ) (new : List ℕ) (r : FrameRead) → Fast.Answers reading old (fast.Refused n at) new → r ≡ Refused n (8 + at) → Answers reading old r new
+has-refused reading old n at new r (e, p) i = rw e (i, p)
+
+pub has-left : (reading : Reading) (old new : List ℕ) (r : FrameRead) (last : List ℕ) → Fast.Answers reading old fast.Unread new → Answers reading new r last → Answers reading old r last
+has-left (frame f) old new r last h a = a
+has-left (short needed) old new r last h a = (a .0, a .1 ∙ h)
+has-left (refusal n place) old new r last h a = (a .0, a .1 ∙ h)

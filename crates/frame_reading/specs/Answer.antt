@@ -1,5 +1,5 @@
 -- What reading into slots answers: whether there is a frame, refusal 1 with the bytes needed, or another refusal's number and
--- place. What the slots then hold is `slotsAfter` (`flat`, specs/Flat.antt).
+-- place. What the slots then hold is `slotsAfter` (`slots`, specs/Flat.antt).
 use mathlib.Core.Option.{Option, none, some}
 use Rattle.rules.specs.Answers.{Refusal, numbered, needing}
 use Rattle.rules.specs.Reading.{Reading, frame, short, refusal}

@@ -7,6 +7,7 @@ ghost use Rattle.rules.specs.Answers.{readingRefusal};
 ghost use Rattle.rules.specs.Reading.{readFrame, readDecided, readLayout};
 ghost use Rattle.slots.specs.Flat.{slotsAfter};
 ghost use Rattle.frame_reading.specs.Answer.{told, refusalOf};
+use fast_reading::Fast;
 use frame_head::head_of;
 use frame_head::over_limit;
 use protocol::Decided;
@@ -31,8 +32,7 @@ pub fn read(bytes: &[u8], limit: u32, slots: &mut [u64; 24]) -> FrameRead
     if bytes.len() < 4 {
         return FrameRead::Short { needed: 4 };
     }
-    let head = head_of(bytes);
-    let size = head.size as u64;
+    let size = head_of(bytes).size as u64;
     if over_limit(limit, size) {
         return refused(refusal::FRAME_TOO_LARGE, 0);
     }
@@ -43,6 +43,8 @@ pub fn read(bytes: &[u8], limit: u32, slots: &mut [u64; 24]) -> FrameRead
     if bytes.len() < end {
         return FrameRead::Short { needed: size + 4 };
     }
+    // Of a part that is as long as the frame the compiler knows that the head is there.
+    let head = head_of(&bytes[..end]);
     read_whole(&bytes[8..end], head.key, head.version, slots)
 }
 
@@ -51,10 +53,11 @@ fn read_whole(s: &[u8], key: u16, version: u16, slots: &mut [u64; 24]) -> FrameR
     ensures { λ r. ⌜ r ≡ told (readDecided (decide key version) (now (s .entry))) ⌝ }
     ensures { λ _. ⌜ now (slots .exit) ≡ slotsAfter (now (slots .entry)) (readDecided (decide key version) (now (s .entry))) ⌝ }
 {
-    if fast_reading::read(s, key as u64, version as u64, slots) {
-        return FrameRead::Frame;
+    match fast_reading::read(s, key as u64, version as u64, slots) {
+        Fast::Frame => FrameRead::Frame,
+        Fast::Refused { number, at } => refused(number, 8 + at),
+        Fast::Unread => read_decided(s, key, version, slots),
     }
-    read_decided(s, key, version, slots)
 }
 
 // Key (4), version (5), then the content.
@@ -84,11 +87,9 @@ fn read_content(
     ensures { λ r. ⌜ r ≡ told (readLayout key version (now (s .entry))) ⌝ }
     ensures { λ _. ⌜ now (slots .exit) ≡ slotsAfter (now (slots .entry)) (readLayout key version (now (s .entry))) ⌝ }
 {
-    let c = slot_fields::read_content(s, key, version, fields, slots);
-    let number = c.refused;
-    let at = c.at;
-    if number != 0 {
-        return refused(number, 8 + at);
+    let end = slot_fields::read_content(s, key, version, fields, slots);
+    if end.refused != 0 {
+        return refused(end.refused, 8 + end.at);
     }
     FrameRead::Frame
 }

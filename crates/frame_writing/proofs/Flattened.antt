@@ -3,22 +3,26 @@ use mathlib.Core.Path.{_≡_, _∙_, sym, ap}
 use mathlib.Core.List.{List}
 use Prim.Native.Nat.{ℕ}
 use lib.ListN.{getD, drop}
+use Rattle.wire.specs.Buffer.{holds}
+use Rattle.wire.specs.Integers.{digits}
 use Rattle.protocol.specs.Decision.{Decision, layout, unlistedKey, unlistedVersion, decide}
 use Rattle.protocol.specs.Kinds.{Row}
 use Rattle.protocol.specs.Refusals.{unknownKey, unknownVersion}
 use Rattle.protocol.specs.Table.{rowOf}
 use Rattle.rules.specs.Writing.{unwritten, writeFrame, writeDecided}
-use Rattle.fields.specs.Writer.{State, stepRow}
+use Rattle.fields.specs.Writer.{State, behind, stepRow}
 use Rattle.slots.specs.Unflat.{unflatRow, unflatFrame, writeFlat}
-use Rattle.frame_writing.specs.Content.{stepHead, stepLayout}
-use Rattle.frame_writing.specs.Written.{stepFrame}
+use Rattle.frame_writing.proofs.Writings.{stepContent}
 
-pub frame-stepped : (s src : List ℕ) (row : Row) (k v : ℕ) (t u x : State) → row ≡ rowOf (getD s 0 0) (getD s 1 0) → k ≡ getD s 0 0 → v ≡ getD s 1 0 → u ≡ stepHead k v t → x ≡ stepRow row src (unflatRow row (drop 2 s)) u → x ≡ stepFrame (unflatFrame s) src t
-unfolding stepLayout unflatFrame
-frame-stepped s src row k v t u x e i j h l =
-    l
-    ∙ ap (λ (r : Row). stepRow r src (unflatRow r (drop 2 s)) u) e
-    ∙ ap (λ (y : State). stepRow (rowOf (getD s 0 0) (getD s 1 0)) src (unflatRow (rowOf (getD s 0 0) (getD s 1 0)) (drop 2 s)) y) (h ∙ (λ n. stepHead (i n) (j n) t))
+-- A pass over a row's slots is a pass over the frame's fields.
+pub content-stepped : (s src : List ℕ) (row : Row) (t x : State) → row ≡ rowOf (getD s 0 0) (getD s 1 0) → x ≡ stepRow row src (unflatRow row (drop 2 s)) t → x ≡ stepContent (unflatFrame s) src t
+unfolding unflatFrame
+content-stepped s src row t x e i = i ∙ ap (λ (r : Row). stepRow r src (unflatRow r (drop 2 s)) t) e
+
+-- The head that is put is the frame's.
+pub head-of : (s : List ℕ) (k v size : ℕ) (out q : List ℕ) (n : ℕ) → k ≡ getD s 0 0 → v ≡ getD s 1 0 → holds q n ≡ behind (digits 2 v) (behind (digits 2 k) (behind (digits 4 size) (holds out 0))) → holds q n ≡ behind (digits 2 (unflatFrame s .version)) (behind (digits 2 (unflatFrame s .key)) (behind (digits 4 size) (holds out 0)))
+unfolding unflatFrame
+head-of s k v size out q n i j e = e ∙ (λ m. behind (digits 2 (j m)) (behind (digits 2 (i m)) (behind (digits 4 size) (holds out 0))))
 
 abbrev pub Picks : List ℕ → Row → Type 0
 Picks s row = (decide (getD s 0 0) (getD s 1 0) ≡ layout (getD s 0 0) (getD s 1 0)) × (row ≡ rowOf (getD s 0 0) (getD s 1 0))

@@ -1,5 +1,5 @@
 -- A frame is written as the definition says: the first pass tells the encoding's refusal or its length, up to a bound
--- above any Size; and the second pass, which has room, puts the encoding behind Size. Assumes nothing.
+-- above any Size; and the second pass, which has room, puts the encoding behind the head. Assumes nothing.
 use mathlib.Core.Path.{_≡_, refl, _∙_, sym, ap, subst}
 use mathlib.Core.Bool.{Bool, true, false, cond, _||_}
 use mathlib.Core.List.{List, [], _∷_, _++_, append-assoc}
@@ -8,9 +8,9 @@ use native.Mathlib.Omega.{arith}
 use lib.Dec.{ltb}
 use lib.ListN.{length, length-append}
 use borrow.Author.Tests.{lt-ltb, le-ltb, ltb-true, ltb-false}
-use Rattle.wire.specs.Buffer.{Holds, holds, splice, put}
+use Rattle.wire.specs.Buffer.{Holds, holds, splice}
 use Rattle.wire.specs.Integers.{digits}
-use Rattle.wire.proofs.Splice.{length-splice, splice-splice, put-fits}
+use Rattle.wire.proofs.Splice.{length-splice, splice-splice}
 use Rattle.wire.proofs.Widths.{integers}
 use Rattle.protocol.specs.Decision.{layout, decide}
 use Rattle.protocol.specs.Fields.{Fields}
@@ -18,31 +18,25 @@ use Rattle.protocol.specs.Refusals.{frameTooLarge, noRoom}
 use Rattle.protocol.specs.Table.{rowOf}
 use Rattle.protocol.specs.declared.place.Place.{Place}
 use Rattle.rules.specs.Reading.{overLimit}
-use Rattle.rules.specs.Writing.{Encoding, wrote, refuse, followed, writeRow, unwritten, writeEncoded, writeFrame}
+use Rattle.rules.specs.Writing.{Encoding, wrote, refuse, writeRow, unwritten, writeEncoded, writeFrame}
 use Rattle.rules.specs.Writing as rules
-use Rattle.fields.specs.Writer.{writer, bound, capped, State, state, behind}
+use Rattle.fields.specs.Writer.{writer, bound, capped, State, state, behind, stepRow}
 use Rattle.fields.specs.declared.writer.Writer.{Writer}
 use Rattle.frame_head.specs.Size.{sizeRefusal}
-use Rattle.frame_writing.specs.Content.{stepHead, stepLayout}
-use Rattle.frame_writing.specs.Written.{stepFrame}
-use Rattle.frame_writing.proofs.Passes.{Lawful, Measured, bytesOf, both, one}
+use Rattle.frame_writing.proofs.Passes.{Measured}
 use Rattle.frame_writing.proofs.FieldPasses.{put-pieces, row-lawful}
 
-abbrev head : ℕ → ℕ → List ℕ
-head key version = digits 2 key ++ digits 2 version
+-- One pass over a frame's fields.
+abbrev pub stepContent : Fields Place → List ℕ → State → State
+stepContent f src s = stepRow (rowOf (f .key) (f .version)) src (f .content) s
 
-head-lawful : (key version : ℕ) → Lawful (wrote (head key version)) (λ s. stepHead key version s)
-head-lawful key version =
-    one (wrote (head key version)) (λ h. behind (digits 2 version) (behind (digits 2 key) h)) tt
-    (λ b at out i h. put-pieces (digits 2 key) (digits 2 version ∷ []) b at out (ap bytesOf i) h)
+-- Size, key and version.
+abbrev head : ℕ → ℕ → ℕ → List ℕ
+head size key version = digits 4 size ++ (digits 2 key ++ digits 2 version)
 
-frame-lawful : (f : Fields Place) (src : List ℕ) → Lawful (followed (wrote (head (f .key) (f .version))) (writeRow (rowOf (f .key) (f .version)) src (f .content))) (λ s. stepFrame f src s)
-unfolding stepLayout
-frame-lawful f src = both (head-lawful (f .key) (f .version)) (row-lawful (rowOf (f .key) (f .version)) src (f .content))
-
-head-length : (key version : ℕ) (b : List ℕ) → length (head key version ++ b) ≡ 4 + length b
-head-length key version b =
-    rw (length-append (head key version) b, length-append (digits 2 key) (digits 2 version), integers 2 .size key, integers 2 .size version)
+head-length : (size key version : ℕ) → length (head size key version) ≡ 8
+head-length size key version =
+    rw (length-append (digits 4 size) (digits 2 key ++ digits 2 version), length-append (digits 2 key) (digits 2 version), integers 4 .size size, integers 2 .size key, integers 2 .size version)
 
 -- The bound is above every Size.
 capped-least : (n : ℕ) → capped n ≤ n
@@ -69,13 +63,13 @@ module _ (f : Fields Place) (src : List ℕ) (limit : ℕ) (out : List ℕ) (lis
   unfolding writeFrame
   decided = rw listed
 
-  -- Behind the first pass.
-  module _ (start w : Writer) (o : List ℕ) (begun : start ≡ writer 0 0 false) (m : state w o ≡ stepFrame f src (state start out)) where
-    measured : Measured 0 out (followed (wrote (head (f .key) (f .version))) row) (state w o)
+  -- Behind the first pass, which counts from the four bytes of key and version.
+  module _ (start w : Writer) (o : List ℕ) (begun : start ≡ writer 4 0 false) (m : state w o ≡ stepContent f src (state start out)) where
+    measured : Measured 4 out row (state w o)
     unfolding capped
     measured =
-        let e : state w o ≡ stepFrame f src (state (writer 0 0 false) out) = rw begun at m in
-        subst (λ (s : State). Measured 0 out (followed (wrote (head (f .key) (f .version))) (writeRow (rowOf (f .key) (f .version)) src (f .content))) s) (sym e) (frame-lawful f src .measures 0 out)
+        let e : state w o ≡ stepContent f src (state (writer 4 0 false) out) = rw begun at m in
+        subst (λ (s : State). Measured 4 out (writeRow (rowOf (f .key) (f .version)) src (f .content)) s) (sym e) (row-lawful (rowOf (f .key) (f .version)) src (f .content) .measures 4 out)
 
     pub record Sized : Type 0 where
       pub content : List ℕ
@@ -86,11 +80,9 @@ module _ (f : Fields Place) (src : List ℕ) (limit : ℕ) (out : List ℕ) (lis
     by-row : (P : Encoding → Type 0) → ((n : ℕ) → (n ≡ 0 → ⊥) → w .refused ≡ n → o ≡ out → P (refuse n)) → ((b : List ℕ) → w .refused ≡ 0 → w .at ≡ capped (4 + length b) → o ≡ out → P (wrote b)) → P row
     by-row P g h = by row measured
       where
-        by : (e : Encoding) → Measured 0 out (followed (wrote (head (f .key) (f .version))) e) (state w o) → P e
+        by : (e : Encoding) → Measured 4 out e (state w o) → P e
         by (refuse n) (k, (a, i)) = g n k (ap (λ (s : State). s .by .refused) i) (ap (λ (s : State). s .out) i)
-        by (wrote b) i =
-            let l : 0 + length (head (f .key) (f .version) ++ b) ≡ 4 + length b = omega (arith, head-length (f .key) (f .version) b) in
-            h b (ap (λ (s : State). s .by .refused) i) (ap (λ (s : State). s .by .at) i ∙ ap capped l) (ap (λ (s : State). s .out) i)
+        by (wrote b) i = h b (ap (λ (s : State). s .by .refused) i) (ap (λ (s : State). s .by .at) i) (ap (λ (s : State). s .out) i)
 
     pub fields-refused : (w .refused ≡ 0 → ⊥) → unwritten (w .refused) o ≡ writeFrame f src limit out
     fields-refused z =
@@ -135,40 +127,39 @@ module _ (f : Fields Place) (src : List ℕ) (limit : ℕ) (out : List ℕ) (lis
               let k : length out < 8 + length (s .content) = omega (arith, r, exact, ap length (s .same)) in
               rw (encoded, s .same, le-ltb 0xffff_ffff (4 + length (s .content)) fits, within, lt-ltb (length out) (8 + length (s .content)) k)
 
-          -- The second pass, behind Size.
-          module _ (room : w .at + 4 ≤ length o) (o1 o2 : List ℕ) (next : ℕ) (begun2 v : Writer) (put-size : holds o1 next ≡ put o 0 (digits 4 (w .at))) (here : begun2 ≡ writer next 0 true) (m2 : state v o2 ≡ stepFrame f src (state begun2 o1)) where
-            content : List ℕ
-            content = head (f .key) (f .version) ++ s .content
+          -- The second pass, behind the head.
+          module _ (room : w .at + 4 ≤ length o) (o1 o2 : List ℕ) (next : ℕ) (begun2 v : Writer) (put-head : holds o1 next ≡ behind (digits 2 (f .version)) (behind (digits 2 (f .key)) (behind (digits 4 (w .at)) (holds o 0)))) (here : begun2 ≡ writer next 0 true) (m2 : state v o2 ≡ stepContent f src (state begun2 o1)) where
+            front : List ℕ
+            front = head (w .at) (f .key) (f .version)
 
             wide : 8 + length (s .content) ≤ length out
             wide = omega (arith, room, exact, ap length (s .same))
 
-            size-put : holds o1 next ≡ holds (splice out 0 (digits 4 (w .at))) 4
-            size-put =
-                let k : 0 + length (digits 4 (w .at)) ≤ length out = omega (arith, integers 4 .size (w .at), wide) in
-                let n : 0 + length (digits 4 (w .at)) ≡ 4 = omega (arith, integers 4 .size (w .at)) in
-                put-size ∙ ap (λ (x : List ℕ). put x 0 (digits 4 (w .at))) (s .same) ∙ put-fits out 0 (digits 4 (w .at)) k ∙ ap (holds (splice out 0 (digits 4 (w .at)))) n
+            front-long : length front ≡ 8
+            unfolding front
+            front-long = head-length (w .at) (f .key) (f .version)
 
-            behind-size : o2 ≡ splice (splice out 0 (digits 4 (w .at))) 4 content
-            unfolding content
-            behind-size =
-                let k : length (digits 4 (w .at)) ≡ 4 = integers 4 .size (w .at) in
-                let j : 0 + length (digits 4 (w .at)) ≤ length out = omega (arith, k, wide) in
-                let r : 4 + length (head (f .key) (f .version) ++ s .content) ≤ length (splice out 0 (digits 4 (w .at))) = rw (length-splice out (digits 4 (w .at)) 0 j, head-length (f .key) (f .version) (s .content)) (omega (arith, wide)) in
-                let e : followed (wrote (head (f .key) (f .version))) (writeRow (rowOf (f .key) (f .version)) src (f .content)) ≡ wrote (head (f .key) (f .version) ++ s .content) = ap (followed (wrote (head (f .key) (f .version)))) (s .is) in
-                let b : state begun2 o1 ≡ state (writer 4 0 true) (splice out 0 (digits 4 (w .at))) = rw here (ap (λ (x : Holds). state (writer (x .next) 0 true) (x .bytes)) size-put) in
-                ap (λ (x : State). x .out) (m2 ∙ ap (stepFrame f src) b ∙ frame-lawful f src .puts (head (f .key) (f .version) ++ s .content) 4 (splice out 0 (digits 4 (w .at))) e r)
+            front-put : holds o1 next ≡ holds (splice out 0 front) (0 + length front)
+            unfolding front
+            front-put =
+                put-head
+                ∙ ap (λ (x : List ℕ). behind (digits 2 (f .version)) (behind (digits 2 (f .key)) (behind (digits 4 (w .at)) (holds x 0)))) (s .same)
+                ∙ put-pieces (digits 4 (w .at)) (digits 2 (f .key) ∷ digits 2 (f .version) ∷ []) (head (w .at) (f .key) (f .version)) 0 out refl (omega (arith, front-long, wide))
+
+            behind-front : o2 ≡ splice out 0 (front ++ s .content)
+            behind-front =
+                let j : 0 + length front ≤ length out = omega (arith, front-long, wide) in
+                let k : 0 + length front + length (s .content) ≤ length out = omega (arith, front-long, wide) in
+                let r : 0 + length front + length (s .content) ≤ length (splice out 0 front) = rw (length-splice out front 0 j) k in
+                let b : state begun2 o1 ≡ state (writer (0 + length front) 0 true) (splice out 0 front) = ap (λ (x : Writer). state x o1) here ∙ ap (λ (x : Holds). state (writer (x .next) 0 true) (x .bytes)) front-put in
+                ap (λ (x : State). x .out) (m2 ∙ ap (stepContent f src) b ∙ row-lawful (rowOf (f .key) (f .version)) src (f .content) .puts (s .content) (0 + length front) (splice out 0 front) (s .is) r)
+                ∙ splice-splice out front (s .content) 0 k
 
             all-bytes : o2 ≡ splice out 0 (digits 4 (4 + length (s .content)) ++ (digits 2 (f .key) ++ (digits 2 (f .version) ++ s .content)))
-            unfolding content
+            unfolding front
             all-bytes =
-                let k : length (digits 4 (w .at)) ≡ 4 = integers 4 .size (w .at) in
-                let j : 0 + length (digits 4 (w .at)) + length (head (f .key) (f .version) ++ s .content) ≤ length out = omega (arith, k, wide, head-length (f .key) (f .version) (s .content)) in
-                let n : 0 + length (digits 4 (w .at)) ≡ 4 = omega (arith, k) in
-                behind-size
-                ∙ sym (ap (λ (x : ℕ). splice (splice out 0 (digits 4 (w .at))) x (head (f .key) (f .version) ++ s .content)) n)
-                ∙ splice-splice out (digits 4 (w .at)) (head (f .key) (f .version) ++ s .content) 0 j
-                ∙ ap (λ (x : List ℕ). splice out 0 (digits 4 (w .at) ++ x)) (append-assoc (digits 2 (f .key)) (digits 2 (f .version)) (s .content))
+                behind-front
+                ∙ ap (λ (x : List ℕ). splice out 0 x) (append-assoc (digits 4 (w .at)) (digits 2 (f .key) ++ digits 2 (f .version)) (s .content) ∙ ap (λ (x : List ℕ). digits 4 (w .at) ++ x) (append-assoc (digits 2 (f .key)) (digits 2 (f .version)) (s .content)))
                 ∙ ap (λ (x : ℕ). splice out 0 (digits 4 x ++ (digits 2 (f .key) ++ (digits 2 (f .version) ++ s .content)))) exact
 
             pub frame-put : record { answer = rules.length (w .at + 4); out = o2 } ≡ writeFrame f src limit out

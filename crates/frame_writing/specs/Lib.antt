@@ -1,3 +1,2 @@
--- Writing from slots: what an answer stands for, and what is put of a frame.
+-- Writing from slots: what an answer stands for.
 pub mod Written
-pub mod Content

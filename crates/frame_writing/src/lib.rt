@@ -1,5 +1,4 @@
 // Writing whole frames.
-mod head;
 mod writing;
 
 pub use writing::Written;

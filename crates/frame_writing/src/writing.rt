@@ -5,19 +5,17 @@ ghost use Rattle.protocol.specs.Decision.{layout, decide, decisionOf};
 ghost use Rattle.protocol.specs.Layouts.{rowFrom};
 ghost use Rattle.protocol.specs.Table.{rowOf};
 ghost use Rattle.protocol.specs.declared.layout.Decided.the-variants.{Layout};
-ghost use Rattle.fields.specs.Writer.{state};
-ghost use Rattle.slots.specs.Unflat.{unflatFrame, writeFlat};
-ghost use Rattle.frame_writing.specs.Written.{writingOf, stepFrame};
-use crate::head::write_head;
+ghost use Rattle.slots.specs.Unflat.{writeFlat};
+ghost use Rattle.frame_writing.specs.Written.{writingOf};
 use fast_writing::Fast;
 use fields::Writer;
+use frame_head::put_head;
 use frame_head::size_refusal;
 use protocol::Decided;
 use protocol::Picked;
 use protocol::refusal;
 use slot_fields::write_fields;
 use slots::slot;
-use wire::Width;
 
 pub enum Written {
     // The frame's length.
@@ -32,6 +30,7 @@ pub fn write(slots: &[u64; 24], src: &[u8], limit: u32, out: &mut [u8]) -> Writt
 {
     match fast_writing::write(slots, src, limit, out) {
         Fast::Length(length) => Written::Length(length),
+        Fast::Refused(number) => Written::Refused(number),
         Fast::Unwritten => write_any(&slots[..], src, limit, out),
     }
 }
@@ -72,7 +71,7 @@ fn write_layout(slots: &[u64], src: &[u8], limit: u32, out: &mut [u8], fields: [
     requires { ⌜ rowFrom fields ≡ rowOf (getD (now slots) 0 0) (getD (now slots) 1 0) ⌝ }
     ensures { λ r. ⌜ writingOf r (now (out .exit)) ≡ writeFlat (now (slots .entry)) (now (src .entry)) limit (now (out .entry)) ⌝ }
 {
-    let measured = behind_size(Writer::measuring(0), src, out, slots, fields);
+    let measured = write_fields(Writer::measuring(4), src, out, slots, fields);
     let number = measured.refused;
     if number != 0 {
         return Written::Refused(number);
@@ -82,18 +81,7 @@ fn write_layout(slots: &[u64], src: &[u8], limit: u32, out: &mut [u8], fields: [
     if number != 0 {
         return Written::Refused(number);
     }
-    let next = wire::put_number(out, 0, Width::Four, size as u64);
-    behind_size(Writer::at_place(next), src, out, slots, fields);
+    let next = put_head(out, size, slot(slots, 0, 0), slot(slots, 0, 1));
+    write_fields(Writer::at_place(next), src, out, slots, fields);
     Written::Length(size as u64 + 4)
-}
-
-// Key, version and content.
-fn behind_size(w: Writer, src: &[u8], out: &mut [u8], slots: &[u64], fields: [u8; 6]) -> Writer
-    requires { ⌜ rowFrom fields ≡ rowOf (getD (now slots) 0 0) (getD (now slots) 1 0) ⌝ }
-    ensures { λ r. ⌜ state r (now (out .exit)) ≡ stepFrame (unflatFrame (now (slots .entry))) (now (src .entry)) (state w (now (out .entry))) ⌝ }
-{
-    let key = slot(slots, 0, 0);
-    let version = slot(slots, 0, 1);
-    let w = write_head(w, out, key, version);
-    write_fields(w, src, out, slots, fields)
 }

@@ -6,7 +6,7 @@ ghost use Prim.Native.Nat.{ℕ, _+_, _≤_, _<_};
 ghost use lib.ListN.{length, take, drop};
 ghost use Rattle.wire.specs.Buffer.{splice};
 ghost use Rattle.input_window.specs.Reads.{inOrder, afterRead};
-ghost use Rattle.input_window.specs.Window.{Shows};
+ghost use Rattle.input_window.specs.Window.{Shows, takenFrom};
 
 pub struct Input {
     // The bytes of the window from a place up to another, which were read and are not taken yet.
@@ -43,6 +43,7 @@ pub fn rest(window: &[u8], at: Input) -> &[u8]
 
 // n bytes further. Where not so many are there, or the offset would pass 2^64 - 1, none are taken.
 pub fn taken(at: Input, n: usize) -> Input
+    ensures { λ r. ⌜ r ≡ takenFrom at n ⌝ }
     ensures { λ r. ⌜ ((reads : List (List ℕ)) (window : List ℕ) → Shows reads at window → n ≤ length (drop (at .offset) (inOrder reads)) → at .offset + n < 0x1_0000_0000_0000_0000 → Shows reads r window × (r .offset ≡ at .offset + n)) ⌝ }
 {
     let from = at.from;

@@ -15,10 +15,11 @@ use Rattle.protocol.specs.declared.place.Place.{Place}
 use Rattle.rules.specs.Writing.{placeOf}
 use Rattle.rules.proofs.Gives.{choice}
 use Rattle.questions.specs.Found.{Each, AllElements, FieldFound, RowFound}
+use Rattle.questions.specs.Answer.{flatAsked}
 use Rattle.questions.specs.Questions.{elementAt}
 use Rattle.questions.proofs.Found.{everything-is-found}
 use Rattle.slots.specs.Flat.{flatElement}
-use Rattle.krevilosh.specs.Asked.{shapeOf, flatAsked, askElement}
+use Rattle.krevilosh.specs.Asked.{shapeOf, askElement}
 use Rattle.krevilosh.specs.Elements.{shapeNumber, EveryElement, FieldAsked, RowAsked, EveryElementIsFound}
 
 infixr 50 _&_

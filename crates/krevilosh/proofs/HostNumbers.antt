@@ -7,6 +7,7 @@ use Prim.Native.Nat.{ℕ, _≤_}
 use native.Mathlib.Omega.{arith}
 use lib.Dec.{eqb}
 use lib.ListN.{getD}
+use Rattle.wire.specs.Signed.{signed}
 use Rattle.protocol.specs.Fields.{Field, place}
 use Rattle.protocol.specs.Kinds as K
 use Rattle.protocol.specs.Kinds.{Row, elementRow}
@@ -20,7 +21,8 @@ use Rattle.rules.specs.Writing as writing
 use Rattle.rules.proofs.Bounds.{FieldNumber, Bounded, bounded-entry, bounded-field}
 use Rattle.rules.proofs.Gives.{choice}
 use Rattle.rules.proofs.RefusalNumbers.{numbers}
-use Rattle.questions.specs.Questions.{Asked, found, refusal, asked, numberOf, elementAt, messageAt}
+use Rattle.questions.specs.Answer.{flatAsked}
+use Rattle.questions.specs.Questions.{Asked, found, refusal, asked, numberOf, elementAt, messageOf}
 use Rattle.questions.proofs.Questions.{element-number, message-number}
 use Rattle.slots.specs.Unflat.{unflatFrame, writeFlat}
 use Rattle.chunk_reader.specs.Reader.{spot, behindEntry, advanced}
@@ -37,7 +39,7 @@ use Rattle.publisher_ledger.specs.Numbers.{refusalNumber}
 use Rattle.publisher_ledger.specs.Step as publisher
 use Rattle.publisher_ledger.proofs.Numbers.{publisher-numbers}
 use Rattle.krevilosh.specs.Answer.{answer, orZero, refusalAnswer, writtenAnswer, nextAnswer}
-use Rattle.krevilosh.specs.Asked.{flatAsked, askElement, askedHeader, flatMessage, askMessage}
+use Rattle.krevilosh.specs.Asked.{askElement, askedEntries, flatMessage, askMessage}
 use Rattle.krevilosh.specs.Numbers.{Tells, askedRefusal, foundRefusal, numberRefusal, lengthOf, entriesIn, HostNumbers}
 
 -- ---- One number
@@ -110,11 +112,12 @@ message-told slots s i =
     (λ _. choice Told (eqb (getD slots 1 0) 2) _ _ (λ _. from 5 6 16 17) (λ _. plain 5 (omega arith, omega arith))))
     (λ _. plain 4 (omega arith, omega arith))
   where
-    from : (type entries at len : ℕ) → Told (flatMessage (messageAt s (askedHeader (getD slots type 0) (getD slots entries 0)) (place (getD slots at 0) (getD slots len 0)) i))
+    from : (type entries at len : ℕ) → Told (flatMessage (messageOf s (signed 8 (getD slots type 0)) (askedEntries (getD slots entries 0)) (place (getD slots at 0) (getD slots len 0)) i))
     from type entries at len =
-        let h = askedHeader (getD slots type 0) (getD slots entries 0) in
+        let t = signed 8 (getD slots type 0) in
+        let m = askedEntries (getD slots entries 0) in
         let p = place (getD slots at 0) (getD slots len 0) in
-        place-told (messageAt s h p i) (λ n e. message-number s p i h n e)
+        place-told (messageOf s t m p i) (λ n e. message-number s p i t m n e)
 
 -- ---- The chunk reader
 

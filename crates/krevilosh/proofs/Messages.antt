@@ -20,24 +20,26 @@ use Rattle.rules.specs.Grammar.{ValidFrame, ValidRow, Valid}
 use Rattle.rules.specs.Writing.{placeOf}
 use Rattle.rules.proofs.Sound.{sound}
 use Rattle.questions.specs.Found.{AllMessages, FieldFound, RowFound}
-use Rattle.questions.specs.Questions.{messageAt}
+use Rattle.questions.specs.Questions.{Asked, messageAt, messageOf}
 use Rattle.questions.proofs.Found.{everything-is-found}
 use Rattle.slots.specs.Flat.{bits, padded, flatFrame}
 use Rattle.slots.specs.Inverse.{SignedRow}
 use Rattle.slots.proofs.Fields.{plain-table, of-row, row-cases}
 use Rattle.chunk_reader.proofs.Delivers.{versions}
-use Rattle.krevilosh.specs.Asked.{askedHeader, flatMessage, askMessage}
+use Rattle.krevilosh.specs.Asked.{askedEntries, flatMessage, askMessage}
 use Rattle.krevilosh.specs.Messages.{EveryMessage, EveryMessageIsFound}
 
 -- What a question looks at in the header's slots is what the header says.
-same-header : (s : List ℕ) (h : ChunkHeader) (p : Place) (i : ℕ) → two's.Signed 8 (h .«chunk_type») → h .entries < 65536 → messageAt s (askedHeader (bits (h .«chunk_type»)) (h .entries)) p i ≡ messageAt s h p i
-unfolding messageAt
+abbrev asked-of : List ℕ → ChunkHeader → Place → ℕ → Asked Place
+asked-of s h p i = messageOf s (two's.signed 8 (bits (h .«chunk_type»))) (askedEntries (h .entries)) p i
+
+same-header : (s : List ℕ) (h : ChunkHeader) (p : Place) (i : ℕ) → two's.Signed 8 (h .«chunk_type») → h .entries < 65536 → asked-of s h p i ≡ messageAt s h p i
 same-header s h p i z e =
     rw (twos-complement 7 .signed-unsigned (h .«chunk_type») z, le-ltb 65535 (h .entries) (omega (arith, e)))
 
 module _ (s : List ℕ) (h : ChunkHeader) (p : Place) where
   abbrev Asks : Fields Place → Type 0
-  Asks f = (i : ℕ) → askMessage (flatFrame f) s i ≡ flatMessage (messageAt s (askedHeader (bits (h .«chunk_type»)) (h .entries)) p i)
+  Asks f = (i : ℕ) → askMessage (flatFrame f) s i ≡ flatMessage (asked-of s h p i)
 
   version-1 : (x : Field Place) → Asks (record { key = 0x0008; version = 1; content = x ∷ F.chunk h p ∷ [] })
   unfolding flatFrame padded table rowIn

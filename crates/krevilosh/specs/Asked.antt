@@ -4,23 +4,17 @@ use mathlib.Core.List.{List}
 use mathlib.Core.Option.{Option, none, some}
 use Prim.Native.Nat.{ℕ, _+_}
 use lib.Dec.{eqb, ltb}
-use lib.IntN.{pos}
 use lib.ListN.{getD}
 use Rattle.wire.specs.Signed as two's
-use Rattle.protocol.specs.Fields.{Field, place}
-use Rattle.protocol.specs.Kinds.{Row, elementRow}
+use Rattle.protocol.specs.Fields.{place}
+use Rattle.protocol.specs.Kinds.{elementRow}
 use Rattle.protocol.specs.Refusals.{unknownKey, unknownVersion, valueNotAdmitted}
-use Rattle.protocol.specs.declared.chunk.ChunkHeader.{ChunkHeader}
 use Rattle.protocol.specs.declared.kind.Element.{Element}
 use Rattle.protocol.specs.declared.kind.Element.the-variants.{Message, FilteredMessage, PublishingId, PublishingError, Property, Name, CommandVersions, Broker, StreamMetadata, Statistic, BrokerReference}
 use Rattle.protocol.specs.declared.place.Place.{Place}
-use Rattle.questions.specs.Questions.{Asked, found, refusal, elementAt, messageAt}
-use Rattle.slots.specs.Flat.{flatElement, flatPlace, padded}
-
--- The slots behind the pointer afterwards: a refusal leaves them as they were.
-abbrev pub askedSlots : List ℕ → Asked (List ℕ) → List ℕ
-askedSlots old (found slots) = slots
-askedSlots old (refusal n) = old
+use Rattle.questions.specs.Answer.{flatAsked}
+use Rattle.questions.specs.Questions.{Asked, found, refusal, elementAt, messageOf}
+use Rattle.slots.specs.Flat.{flatPlace, padded}
 
 -- The numbers that stand for the kinds of element.
 abbrev pub shapeOf : ℕ → Option Element
@@ -38,33 +32,15 @@ shapeOf n =
     (cond (eqb n 11) (some BrokerReference)
     none))))))))))
 
-abbrev pub flatAsked : Row → Asked (List (Field Place)) → Asked (List ℕ)
-flatAsked row (found fs) = found (flatElement row fs)
-flatAsked row (refusal n) = refusal n
-
 -- An element of a list. A number that stands for no kind is refused with 10, first.
 abbrev pub askElement : Option Element → List ℕ → ℕ → Place → ℕ → Asked (List ℕ)
 askElement none s count p index = refusal valueNotAdmitted
 askElement (some kind) s count p index = flatAsked (elementRow kind) (elementAt (elementRow kind) s count p index)
 
--- What a question looks at in a chunk's header: the type, and the entry count. No chunk has as many entries as a count
--- that is too wide for its field, so no index is below it (10).
-abbrev pub askedHeader : ℕ → ℕ → ChunkHeader
-askedHeader type entries =
-    record {
-      magic = pos 0;
-      «chunk_type» = two's.signed 8 type;
-      entries = cond (ltb 0xffff entries) 0 entries;
-      records = 0;
-      timestamp = pos 0;
-      epoch = 0;
-      «first_offset» = 0;
-      checksum = pos 0;
-      «data_length» = 0;
-      «trailer_length» = 0;
-      «bloom_size» = 0;
-      reserved = 0;
-    }
+-- The entry count that a slot tells. No chunk has as many entries as a count that is too wide for its field, so no index is below
+-- it (10).
+abbrev pub askedEntries : ℕ → ℕ
+askedEntries entries = cond (ltb 0xffff entries) 0 entries
 
 abbrev pub flatMessage : Asked Place → Asked (List ℕ)
 flatMessage (found p) = found (padded 8 (flatPlace p))
@@ -73,7 +49,7 @@ flatMessage (refusal n) = refusal n
 -- The message at an index of the chunk whose fourteen slots start at `at`.
 abbrev pub messageFrom : ℕ → List ℕ → List ℕ → ℕ → Asked (List ℕ)
 messageFrom at slots s index =
-    flatMessage (messageAt s (askedHeader (getD slots (at + 1) 0) (getD slots (at + 2) 0)) (place (getD slots (at + 12) 0) (getD slots (at + 13) 0)) index)
+    flatMessage (messageOf s (two's.signed 8 (getD slots (at + 1) 0)) (askedEntries (getD slots (at + 2) 0)) (place (getD slots (at + 12) 0) (getD slots (at + 13) 0)) index)
 
 -- A message of a flat Deliver. Another key is refused with 4, another version with 5, first.
 abbrev pub askMessage : List ℕ → List ℕ → ℕ → Asked (List ℕ)

@@ -1,23 +1,16 @@
 // Questions about what was read: the elements of lists, and the messages of chunks.
-ghost use mathlib.Core.Bool.{cond};
 ghost use mathlib.Core.Path.{_≡_};
-ghost use lib.Dec.{ltb};
 ghost use Rattle.wire.specs.Signed.{signed};
 ghost use Rattle.protocol.specs.Fields.{place};
-ghost use Rattle.questions.specs.Questions.{messageAt, numberOf};
-ghost use Rattle.rules.specs.Reading.{hasEntries};
-ghost use Rattle.questions.specs.Answer.{elementAnswer};
-ghost use Rattle.krevilosh.specs.Asked.{askElement, askMessage, askedHeader, askedSlots, flatMessage, shapeOf};
-ghost use Rattle.krevilosh.specs.Shapes.{kindIn, slotsIn};
-use protocol::Chunk;
-use protocol::ChunkHeader;
+ghost use Rattle.questions.specs.Answer.{askedSlots};
+ghost use Rattle.questions.specs.Questions.{messageOf, numberOf};
+ghost use Rattle.krevilosh.specs.Asked.{askElement, askMessage, askedEntries, flatMessage, shapeOf};
+ghost use Rattle.krevilosh.specs.Shapes.{kindIn};
 use protocol::Element;
 use protocol::Elements;
 use protocol::Place;
 use protocol::refusal;
-use questions::AskedElement;
 use questions::AskedPlace;
-use slots::element_slots;
 use slots::place_slots;
 
 pub enum Shape {
@@ -50,8 +43,7 @@ pub extern "C" fn krevilosh_element(
         count: count as usize,
         place: place,
     };
-    let asked = questions::element(kind, source, list, index as usize);
-    put_element(element, asked)
+    questions::element(kind, source, list, index as usize, element) as u64
 }
 
 // The message at an index of the chunk in a flat Deliver.
@@ -97,53 +89,19 @@ pub extern "C" fn krevilosh_message(
 fn kind_of(shape: u8) -> Shape
     ensures { λ r. ⌜ kindIn r ≡ shapeOf shape ⌝ }
 {
-    if shape == 1 {
-        return Shape::Kind(Element::Message);
-    }
-    if shape == 2 {
-        return Shape::Kind(Element::FilteredMessage);
-    }
-    if shape == 3 {
-        return Shape::Kind(Element::PublishingId);
-    }
-    if shape == 4 {
-        return Shape::Kind(Element::PublishingError);
-    }
-    if shape == 5 {
-        return Shape::Kind(Element::Property);
-    }
-    if shape == 6 {
-        return Shape::Kind(Element::Name);
-    }
-    if shape == 7 {
-        return Shape::Kind(Element::CommandVersions);
-    }
-    if shape == 8 {
-        return Shape::Kind(Element::Broker);
-    }
-    if shape == 9 {
-        return Shape::Kind(Element::StreamMetadata);
-    }
-    if shape == 10 {
-        return Shape::Kind(Element::Statistic);
-    }
-    if shape == 11 {
-        return Shape::Kind(Element::BrokerReference);
-    }
-    Shape::Unknown
-}
-
-// The element's slots, if there is one.
-fn put_element(slots: &mut [u64; 8], asked: AskedElement) -> u64
-    ensures { λ r. ⌜ r ≡ numberOf (elementAnswer asked) ⌝ }
-    ensures { λ _. ⌜ now (slots .exit) ≡ slotsIn (now (slots .entry)) asked ⌝ }
-{
-    match asked {
-        AskedElement::Element(element) => {
-            *slots = element_slots(element);
-            0
-        }
-        AskedElement::Refused(number) => number as u64,
+    match shape {
+        1 => Shape::Kind(Element::Message),
+        2 => Shape::Kind(Element::FilteredMessage),
+        3 => Shape::Kind(Element::PublishingId),
+        4 => Shape::Kind(Element::PublishingError),
+        5 => Shape::Kind(Element::Property),
+        6 => Shape::Kind(Element::Name),
+        7 => Shape::Kind(Element::CommandVersions),
+        8 => Shape::Kind(Element::Broker),
+        9 => Shape::Kind(Element::StreamMetadata),
+        10 => Shape::Kind(Element::Statistic),
+        11 => Shape::Kind(Element::BrokerReference),
+        _ => Shape::Unknown,
     }
 }
 
@@ -157,19 +115,14 @@ fn put_message(
     length: u64,
     index: u64,
 ) -> u64
-    ensures { λ r. ⌜ r ≡ numberOf (flatMessage (messageAt (now (source .entry)) (askedHeader kind entries) (place at length) index)) ⌝ }
-    ensures { λ _. ⌜ now (slots .exit) ≡ askedSlots (now (slots .entry)) (flatMessage (messageAt (now (source .entry)) (askedHeader kind entries) (place at length) index)) ⌝ }
+    ensures { λ r. ⌜ r ≡ numberOf (flatMessage (messageOf (now (source .entry)) (signed 8 kind) (askedEntries entries) (place at length) index)) ⌝ }
+    ensures { λ _. ⌜ now (slots .exit) ≡ askedSlots (now (slots .entry)) (flatMessage (messageOf (now (source .entry)) (signed 8 kind) (askedEntries entries) (place at length) index)) ⌝ }
 {
-    let header = asked_header(kind, entries);
     let data = Place {
         at: at as usize,
         len: length as usize,
     };
-    let chunk = Chunk {
-        header: header,
-        data: data,
-    };
-    match questions::message_place(source, chunk, index as usize) {
+    match questions::message_place(source, kind, entry_count(entries), data, index as usize) {
         AskedPlace::Place(found) => {
             *slots = place_slots(found);
             0
@@ -178,46 +131,9 @@ fn put_message(
     }
 }
 
-// What a question looks at in a header, the other numbers being 0.
-fn asked_header(kind: u64, entries: u64) -> ChunkHeader
-    ensures { λ r. ⌜ hasEntries (r .«chunk_type») ≡ hasEntries (signed 8 kind) ⌝ }
-    ensures { λ r. ⌜ r .entries ≡ cond (ltb 0xffff entries) 0 entries ⌝ }
-{
-    let entries = entry_count(entries);
-    if kind == 0 {
-        return ChunkHeader {
-            magic: 0,
-            chunk_type: 0,
-            entries: entries,
-            records: 0,
-            timestamp: 0,
-            epoch: 0,
-            first_offset: 0,
-            checksum: 0,
-            data_length: 0,
-            trailer_length: 0,
-            bloom_size: 0,
-            reserved: 0,
-        };
-    }
-    ChunkHeader {
-        magic: 0,
-        chunk_type: 1,
-        entries: entries,
-        records: 0,
-        timestamp: 0,
-        epoch: 0,
-        first_offset: 0,
-        checksum: 0,
-        data_length: 0,
-        trailer_length: 0,
-        bloom_size: 0,
-        reserved: 0,
-    }
-}
-
+// The entry count. No chunk has as many as a count that is too wide for its field, so no index is below it.
 fn entry_count(entries: u64) -> u16
-    ensures { λ r. ⌜ r ≡ cond (ltb 0xffff entries) 0 entries ⌝ }
+    ensures { λ r. ⌜ r ≡ askedEntries entries ⌝ }
 {
     if 0xffff < entries {
         return 0;

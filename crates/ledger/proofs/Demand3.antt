@@ -1,18 +1,18 @@
 -- Demand 3 holds of every list of calls. After each call the ledger has of every id what the history says of it: a call
 -- changes one entry, and by as much as it adds to the history's sums. So the ledger's answers are the history's; and
 -- what an id's entry is depends on the calls for that id alone. Assumes nothing.
-use Prim.Native.Nat.{ℕ, zero, suc, _+_, _-_, _≤_, _<_}
+use Prim.Native.Nat.{ℕ, _+_, _≤_, _<_}
 use mathlib.Core.Path.{_≡_, refl, sym, ap, ap₂, _∙_, subst, fun-ext}
 use mathlib.Core.Logic.{_↔_}
 use mathlib.Core.Bool.{Bool, true, false, cond}
 use mathlib.Core.List.{List, [], _∷_, _++_, reverse, reverseAux}
 use mathlib.Core.Option.{Option, none, some}
 use native.Mathlib.Omega.{arith}
-use borrow.Author.Tests.{leb-true, leb-false, le-leb, lt-leb, eqb-true, eqb-false}
+use borrow.Author.Tests.{leb-true, leb-false, le-leb, eqb-true, eqb-false}
 use lib.ListN.{length, length-replicate}
 use lib.Dec.{leb, eqb}
 use Rattle.protocol.specs.Refusals.{notOpen, alreadyOpen, overLimit}
-use Rattle.ledger.specs.Calls.{Op, start, add, take, stop, Purpose, forNone, forId, Answer, accepted, refused, Accepted, answerBy}
+use Rattle.ledger.specs.Calls.{Op, start, add, take, stop, Purpose, forId, Answer, accepted, refused, Accepted, answerBy}
 use Rattle.ledger.specs.Rules.{Entry, closed, opened, most, refusal, effect, empty, Sized, entryAt, store, keepOr, ledgerAt, Act, aside, at, Terms, answerTo, ledgerAfter, purposeOf}
 use Rattle.ledger.specs.History.{opening, added, taken, refusalBy, refusalIn, OpenWith, note, stays, Within, acceptedFor, strikeCalls, strike, AllWithin}
 use Rattle.ledger.specs.Demand3.{ledgerOf, history, make, answerIn, Demand3, Agree}

@@ -1,5 +1,5 @@
 -- Lemmas that belong to no one function.
 pub mod FixedWidth
 pub mod ElementEnds
-pub mod ListFields
-pub mod ListWriting
+pub mod Rows
+pub mod Lists

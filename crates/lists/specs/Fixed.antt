@@ -1,26 +1,26 @@
 -- Elements of one width.
+use mathlib.Core.Path.{_≡_}
 use mathlib.Core.Bool.{cond}
-use Prim.Native.Nat.{ℕ, _+_, _*_}
-use lib.Dec.{eqb, leb}
-use Rattle.protocol.specs.declared.kind.Element.{Element}
-use Rattle.protocol.specs.declared.kind.Element.the-variants.{Message, FilteredMessage, PublishingId, PublishingError, Property, Name, CommandVersions, Broker, StreamMetadata, Statistic, BrokerReference}
+use Prim.Native.Nat.{ℕ, suc, _+_, _-_, _*_, _/_, _^_}
+use lib.Dec.{ltb}
+use Rattle.wire.specs.Integers.{widthOf}
+use Rattle.wire.specs.declared.integers.Width.{Width}
+use Rattle.protocol.specs.Kinds.{Kind, Row, end, _·_, unsigned, list, plain}
 use Rattle.lists.specs.declared.fixed.Fixed.{Fixed}
-use Rattle.lists.specs.declared.fixed.Fixed.the-variants.{End, Unknown}
+use Rattle.lists.specs.declared.fixed.Fixed.the-variants.{End, Cut}
 
--- The bytes of an element whose fields are numbers; 0 where an element has text or a list.
-abbrev pub elementWidth : Element → ℕ
-elementWidth Message = 0
-elementWidth FilteredMessage = 0
-elementWidth PublishingId = 8
-elementWidth PublishingError = 10
-elementWidth Property = 0
-elementWidth Name = 0
-elementWidth CommandVersions = 6
-elementWidth Broker = 0
-elementWidth StreamMetadata = 0
-elementWidth Statistic = 0
-elementWidth BrokerReference = 2
+-- A row of numbers that fill their bytes, and how many bytes it has.
+pub data NumbersOf : Row → ℕ → Type 0 where
+  none : NumbersOf end 0
+  one-more : {row : Row} {w : ℕ} (n most : ℕ) → 256 ^ n ≡ suc most → NumbersOf row w → NumbersOf (unsigned n most · row) (n + w)
 
--- Where elements of a width end, if they all lie within len bytes.
+-- A list of numbers that fill their bytes.
+abbrev pub numbers : Width → Kind
+numbers width = list plain (unsigned (widthOf width) (256 ^ widthOf width - 1) · end)
+
+-- Where so many elements of a width end, if they all lie within len bytes; or where the first begins that does not.
 unfoldable pub fixedEnd : ℕ → ℕ → ℕ → ℕ → Fixed
-fixedEnd len at width count = cond (eqb width 0) Unknown (cond (leb (at + count * width) len) (End (at + count * width)) Unknown)
+fixedEnd len at width count =
+    cond (ltb ((len - at) / width) count)
+    (Cut (at + (len - at) / width * width))
+    (End (at + count * width))

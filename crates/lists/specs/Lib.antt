@@ -1,2 +1,4 @@
--- Elements whose end is known from their count.
+-- Lists and their elements.
 pub mod Fixed
+pub mod Ends
+pub mod Checks

@@ -1,32 +1,35 @@
 // The count in front of a list.
 ghost use mathlib.Core.Path.{_≡_};
+ghost use lib.Dec.{ltb};
+ghost use Rattle.wire.specs.Integers.{numberOrZero};
 ghost use Rattle.rules.specs.Reading.{readCount};
-ghost use Rattle.fields.specs.Cursor.{from, landed, foundOr};
-use fields::Cursor;
-use fields::number_of;
+ghost use Rattle.fields.specs.Stops.{stop};
 use protocol::refusal;
 use wire::Width;
 
-pub struct ReadCount {
-    pub value: usize,
-    pub next: Cursor,
+// The number that the count at a place is refused with, 0 if it is read: four bytes (6), and no negative count (7).
+pub fn count_refusal(s: &[u8], at: usize) -> u8
+    ensures { λ r. ⌜ r ≡ stop (readCount (now (s .entry)) at) .refused ⌝ }
+{
+    if !wire::has_room(s.len(), at, 4) {
+        return refusal::FIELD_CUT;
+    }
+    if !is_count(count_at(s, at)) {
+        return refusal::BAD_LENGTH;
+    }
+    0
 }
 
-// Four bytes (6), and no negative count (7).
-pub fn list_count(s: &[u8], c: Cursor) -> ReadCount
-    ensures { λ r. ⌜ (r .value ≡ foundOr 0 (from readCount (now (s .entry)) c)) × (r .next ≡ landed (c .base) (from readCount (now (s .entry)) c)) ⌝ }
+// The count at a place; 0 where its bytes are not all there.
+pub fn count_at(s: &[u8], at: usize) -> usize
+    ensures { λ r. ⌜ r ≡ numberOrZero 4 (now (s .entry)) at ⌝ }
 {
-    let n = number_of(s, c, Width::Four);
-    let next = n.next;
-    let value = n.value;
-    if 0x7fff_ffff < value {
-        return ReadCount {
-            value: 0,
-            next: c.refuse(refusal::BAD_LENGTH),
-        };
-    }
-    ReadCount {
-        value: value as usize,
-        next: next,
-    }
+    wire::number_or_zero(s, at, Width::Four) as usize
+}
+
+// Whether a list may have so many elements: the count is an int32.
+pub fn is_count(n: usize) -> bool
+    ensures { λ r. ⌜ r ≡ ltb n 0x8000_0000 ⌝ }
+{
+    n < 0x8000_0000
 }

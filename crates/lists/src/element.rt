@@ -1,180 +1,75 @@
-// The elements of lists: where each ends, or why it is refused.
+// The elements of a list, field by field.
 ghost use mathlib.Core.Path.{_≡_};
-ghost use Rattle.protocol.specs.Kinds.{elementRow, u16, list, plain, end, _·_};
-ghost use Rattle.protocol.specs.declared.kind.Element.the-variants.{Message, FilteredMessage, PublishingId, PublishingError, Property, Name, CommandVersions, Broker, StreamMetadata, Statistic, BrokerReference};
+ghost use Rattle.protocol.specs.Kinds.{elementRow};
+ghost use Rattle.protocol.specs.Layouts.{elementKind, rowBy};
 ghost use Rattle.rules.specs.Outcome.{repeated};
-ghost use Rattle.rules.specs.Reading.{readField, readRow};
-ghost use Rattle.fields.specs.Cursor.{from, landed};
-use crate::count::list_count;
-use fields::Cursor;
-use fields::i64_field;
-use fields::nullable_field;
-use fields::string_field;
-use fields::u16_field;
-use fields::u32_field;
-use fields::u64_field;
+ghost use Rattle.rules.specs.Reading.{readRow};
+ghost use Rattle.fields.specs.Stops.{stop};
+ghost use Rattle.lists.specs.Ends.{fieldEnd};
+use crate::fixed::numbers_end;
+use fields::Stop;
+use fields::number_end;
+use fields::string_end;
 use protocol::Element;
 use protocol::Form;
+use protocol::element_fields;
+use protocol::field;
+use wire::Width;
 
-// The cursor behind an element.
-pub fn skip_element(s: &[u8], c: Cursor, kind: Element) -> Cursor
-    ensures { λ r. ⌜ r ≡ landed (c .base) (from (readRow (elementRow kind)) (now (s .entry)) c) ⌝ }
+// So many elements from a place on: where they end, or why one is refused.
+pub fn walked_end(s: &[u8], start: usize, kind: Element, count: usize) -> Stop
+    ensures { λ r. ⌜ r ≡ stop (repeated (readRow (elementRow kind)) count (now (s .entry)) start) ⌝ }
 {
-    match kind {
-        Element::Message => message(s, c),
-        Element::FilteredMessage => filtered_message(s, c),
-        Element::PublishingId => publishing_id(s, c),
-        Element::PublishingError => publishing_error(s, c),
-        Element::Property => property(s, c),
-        Element::Name => name(s, c),
-        Element::CommandVersions => command_versions(s, c),
-        Element::Broker => broker(s, c),
-        Element::StreamMetadata => stream_metadata(s, c),
-        Element::Statistic => statistic(s, c),
-        Element::BrokerReference => broker_reference(s, c),
+    let fields = element_fields(kind);
+    let mut at = start;
+    let mut left = count;
+    while left != 0 {
+        let end = row_end(s, at, fields);
+        if end.refused != 0 {
+            return end;
+        }
+        at = end.at;
+        left -= 1;
     }
+    Stop::after(at)
 }
 
-// Until the count is met or an element is refused.
-pub fn each_element(s: &[u8], start: Cursor, kind: Element, count: usize) -> Cursor
-    ensures { λ r. ⌜ r ≡ landed (start .base) (from (repeated (readRow (elementRow kind)) count) (now (s .entry)) start) ⌝ }
+// One element.
+pub fn element_end(s: &[u8], at: usize, kind: Element) -> Stop
+    ensures { λ r. ⌜ r ≡ stop (readRow (elementRow kind) (now (s .entry)) at) ⌝ }
 {
-    let mut c = start;
+    row_end(s, at, element_fields(kind))
+}
+
+fn row_end(s: &[u8], start: usize, fields: [u8; 6]) -> Stop
+    ensures { λ r. ⌜ r ≡ stop (readRow (rowBy elementKind fields) (now (s .entry)) start) ⌝ }
+{
+    let mut at = start;
     let mut i: usize = 0;
-    while i < count {
-        if c.refused != 0 {
-            return c;
+    while i < 6 {
+        let end = field_end(s, at, fields[i]);
+        if end.refused != 0 {
+            return end;
         }
-        c = skip_element(s, c, kind);
+        at = end.at;
         i += 1;
     }
-    c
+    Stop::after(at)
 }
 
-fn message(s: &[u8], c: Cursor) -> Cursor
-    ensures { λ r. ⌜ r ≡ landed (c .base) (from (readRow (elementRow Message)) (now (s .entry)) c) ⌝ }
+// A field that an element may have. The list among them is one of numbers, so no list stands in another any deeper.
+fn field_end(s: &[u8], at: usize, number: u8) -> Stop
+    ensures { λ r. ⌜ r ≡ fieldEnd (elementKind number) (now (s .entry)) at ⌝ }
 {
-    let publishing_id = u64_field(s, c);
-    let next = publishing_id.next;
-    let message = string_field(s, next, Form::Bytes);
-    message.next
-}
-
-fn filtered_message(s: &[u8], c: Cursor) -> Cursor
-    ensures { λ r. ⌜ r ≡ landed (c .base) (from (readRow (elementRow FilteredMessage)) (now (s .entry)) c) ⌝ }
-{
-    let publishing_id = u64_field(s, c);
-    let next = publishing_id.next;
-    let filter_value = nullable_field(s, next, Form::Text);
-    let next = filter_value.next;
-    let message = string_field(s, next, Form::Bytes);
-    message.next
-}
-
-fn publishing_id(s: &[u8], c: Cursor) -> Cursor
-    ensures { λ r. ⌜ r ≡ landed (c .base) (from (readRow (elementRow PublishingId)) (now (s .entry)) c) ⌝ }
-{
-    let publishing_id = u64_field(s, c);
-    publishing_id.next
-}
-
-fn publishing_error(s: &[u8], c: Cursor) -> Cursor
-    ensures { λ r. ⌜ r ≡ landed (c .base) (from (readRow (elementRow PublishingError)) (now (s .entry)) c) ⌝ }
-{
-    let publishing_id = u64_field(s, c);
-    let next = publishing_id.next;
-    let code = u16_field(s, next);
-    code.next
-}
-
-fn property(s: &[u8], c: Cursor) -> Cursor
-    ensures { λ r. ⌜ r ≡ landed (c .base) (from (readRow (elementRow Property)) (now (s .entry)) c) ⌝ }
-{
-    let key = string_field(s, c, Form::Text);
-    let next = key.next;
-    let value = string_field(s, next, Form::Text);
-    value.next
-}
-
-fn name(s: &[u8], c: Cursor) -> Cursor
-    ensures { λ r. ⌜ r ≡ landed (c .base) (from (readRow (elementRow Name)) (now (s .entry)) c) ⌝ }
-{
-    let name = string_field(s, c, Form::Text);
-    name.next
-}
-
-fn command_versions(s: &[u8], c: Cursor) -> Cursor
-    ensures { λ r. ⌜ r ≡ landed (c .base) (from (readRow (elementRow CommandVersions)) (now (s .entry)) c) ⌝ }
-{
-    let key = u16_field(s, c);
-    let next = key.next;
-    let min_version = u16_field(s, next);
-    let next = min_version.next;
-    let max_version = u16_field(s, next);
-    max_version.next
-}
-
-fn broker(s: &[u8], c: Cursor) -> Cursor
-    ensures { λ r. ⌜ r ≡ landed (c .base) (from (readRow (elementRow Broker)) (now (s .entry)) c) ⌝ }
-{
-    let reference = u16_field(s, c);
-    let next = reference.next;
-    let host = string_field(s, next, Form::Text);
-    let next = host.next;
-    let port = u32_field(s, next);
-    port.next
-}
-
-fn stream_metadata(s: &[u8], c: Cursor) -> Cursor
-    ensures { λ r. ⌜ r ≡ landed (c .base) (from (readRow (elementRow StreamMetadata)) (now (s .entry)) c) ⌝ }
-{
-    let stream = string_field(s, c, Form::Text);
-    let next = stream.next;
-    let code = u16_field(s, next);
-    let next = code.next;
-    let leader = u16_field(s, next);
-    let next = leader.next;
-    replicas(s, next)
-}
-
-fn statistic(s: &[u8], c: Cursor) -> Cursor
-    ensures { λ r. ⌜ r ≡ landed (c .base) (from (readRow (elementRow Statistic)) (now (s .entry)) c) ⌝ }
-{
-    let key = string_field(s, c, Form::Text);
-    let next = key.next;
-    let value = i64_field(s, next);
-    value.next
-}
-
-fn broker_reference(s: &[u8], c: Cursor) -> Cursor
-    ensures { λ r. ⌜ r ≡ landed (c .base) (from (readRow (elementRow BrokerReference)) (now (s .entry)) c) ⌝ }
-{
-    let reference = u16_field(s, c);
-    reference.next
-}
-
-// The list inside an element of Metadata's response.
-fn replicas(s: &[u8], c: Cursor) -> Cursor
-    ensures { λ r. ⌜ r ≡ landed (c .base) (from (readField (list plain (u16 · end))) (now (s .entry)) c) ⌝ }
-{
-    let counted = list_count(s, c);
-    let n = counted.value;
-    let behind = counted.next;
-    broker_references(s, behind, n)
-}
-
-// Until the count is met or a reference is refused.
-fn broker_references(s: &[u8], start: Cursor, count: usize) -> Cursor
-    ensures { λ r. ⌜ r ≡ landed (start .base) (from (repeated (readRow (elementRow BrokerReference)) count) (now (s .entry)) start) ⌝ }
-{
-    let mut c = start;
-    let mut i: usize = 0;
-    while i < count {
-        if c.refused != 0 {
-            return c;
-        }
-        c = broker_reference(s, c);
-        i += 1;
+    match number {
+        field::U16 => number_end(s, at, Width::Two),
+        field::U32 => number_end(s, at, Width::Four),
+        field::U64 => number_end(s, at, Width::Eight),
+        field::I64 => number_end(s, at, Width::Eight),
+        field::TEXT => string_end(s, at, Form::Text, false),
+        field::BYTES => string_end(s, at, Form::Bytes, false),
+        field::NULLABLE_TEXT => string_end(s, at, Form::Text, true),
+        field::BROKER_REFERENCES => numbers_end(s, at, Width::Two),
+        _ => Stop::after(at),
     }
-    c
 }

@@ -1,14 +1,15 @@
 -- The table's counts and its keys: each is a test that antt computes over the whole table. Assumes nothing.
-use mathlib.Core.Path.{_≡_, refl, ap, ap₂}
+use mathlib.Core.Path.{_≡_, refl, ap₂}
 use mathlib.Core.Bool.{Bool, true, false, _&&_, _||_, false≢true}
 use mathlib.Core.List.{List, [], _∷_}
 use Prim.Native.Nat.{ℕ}
 use lib.Dec.{T, eqb, eqb→eq}
 use borrow.Author.Tests.{eqb-true}
 use Rattle.protocol.specs.Table.{table}
-use Rattle.protocol.specs.TableFacts.{among, requests, answered, keys, TableFacts}
+use Rattle.protocol.specs.Layouts.{among}
+use Rattle.protocol.specs.TableFacts.{requests, answered, keys, TableFacts}
 use Rattle.protocol.specs.Decision.{Decision, layout, unlistedKey, unlistedVersion, versionsIn, ofVersion, decide}
-use Rattle.protocol.proofs.Unlisted.{holds, both, unlisted}
+use Rattle.protocol.proofs.Unlisted.{both, unlisted}
 
 abbrev all : (ℕ → Bool) → List ℕ → Bool
 all f [] = true

@@ -11,7 +11,7 @@ use lib.ListN.{List·getD-eq-default}
 use borrow.Author.Tests.{eqb-true, eqb-false, ltb-true, ltb-false}
 use Rattle.protocol.specs.Kinds.{Kind}
 use Rattle.protocol.specs.Layouts.{kinds, kindOf}
-use Rattle.protocol.specs.TableFacts.{among}
+use Rattle.protocol.specs.Layouts.{among}
 use Rattle.protocol.proofs.Unlisted.{NoneOf, both, not-among}
 
 -- A test of every number below n.

@@ -1,14 +1,14 @@
 -- What a key's layouts in the table tell of the decision and of the row, for each version. Assumes nothing.
-use mathlib.Core.Path.{_≡_, refl, _∙_, sym, ap, subst}
+use mathlib.Core.Path.{_≡_, refl, _∙_, sym, ap}
 use mathlib.Core.Bool.{Bool, true, false, cond, _&&_}
 use mathlib.Core.List.{List, [], _∷_}
 use Prim.Native.Nat.{ℕ}
 use lib.Dec.{eqb}
-use borrow.Author.Tests.{eq-eqb, ne-eqb}
+use borrow.Author.Tests.{ne-eqb}
 use Rattle.protocol.specs.Kinds.{Row, end}
-use Rattle.protocol.specs.Layouts.{kinds, rowFrom, blank}
+use Rattle.protocol.specs.Layouts.{kinds, rowBy, rowFrom, blank}
 use Rattle.protocol.specs.Table.{Listing, table, rowIn, rowOf}
-use Rattle.protocol.specs.Decision.{versionsIn, listings, listedOf, layout, unlistedKey, unlistedVersion, ofVersion, among, decide, decisionOf}
+use Rattle.protocol.specs.Decision.{versionsIn, listings, listedOf, ofVersion, among, decide, decisionOf}
 use Rattle.protocol.specs.declared.layout.Decided.{Decided}
 use Rattle.protocol.specs.declared.layout.Decided.the-variants.{Layout, UnknownKey, UnknownVersion}
 use Rattle.protocol.specs.declared.layout.Listed.{Listed}
@@ -32,7 +32,7 @@ abbrev pub IsPicked : ℕ → ℕ → Picked → Type 0
 IsPicked k v r = (decisionOf (r .decided) k v ≡ decide k v) × (rowFrom (r .fields) ≡ rowOf k v)
 
 no-fields : rowFrom blank ≡ end
-unfolding rowFrom kinds
+unfolding rowBy kinds
 no-fields = refl
 
 module _ (k v : ℕ) (r : Picked) (d : Decided) (fields : List ℕ) (i : (r .decided ≡ d) × (r .fields ≡ fields)) where

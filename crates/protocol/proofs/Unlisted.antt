@@ -1,13 +1,13 @@
 -- A key that is none of some numbers has no layout in a table whose keys are all among those numbers: one test that
 -- antt computes over the whole table, and one law. Assumes nothing.
 use mathlib.Core.Path.{_≡_, refl, _∙_, sym}
-use mathlib.Core.Bool.{Bool, true, false, cond, _&&_, _||_, false≢true}
+use mathlib.Core.Bool.{Bool, true, false, _&&_, false≢true}
 use mathlib.Core.List.{List, [], _∷_}
 use Prim.Native.Nat.{ℕ}
-use lib.Dec.{T, eqb, eqb→eq}
-use borrow.Author.Tests.{ne-eqb, eqb-true, eqb-false}
+use lib.Dec.{T, eqb}
+use borrow.Author.Tests.{ne-eqb}
 use Rattle.protocol.specs.Table.{Listing}
-use Rattle.protocol.specs.TableFacts.{among}
+use Rattle.protocol.specs.Layouts.{among}
 use Rattle.protocol.specs.Decision.{versionsIn}
 
 pub holds : (b : Bool) → T b → b ≡ true

@@ -1,5 +1,5 @@
 -- What the fields of a frame hold, and the paper's "same fields" (01 "Numbers and text on the wire").
-use mathlib.Core.Bool.{Bool, true, false}
+use mathlib.Core.Bool.{Bool}
 use mathlib.Core.List.{List, [], _∷_, map}
 use mathlib.Core.Option.{Option, none, some, Option·map}
 use Prim.Native.Nat.{ℕ, _+_, _≤_}

@@ -1,8 +1,8 @@
 -- The typed frame's key, version and fields, case by case in the order of 01.
 use mathlib.Core.Path.{_≡_}
-use mathlib.Core.Bool.{Bool, true, false, cond}
+use mathlib.Core.Bool.{Bool, cond}
 use mathlib.Core.List.{List, [], _∷_}
-use mathlib.Core.Option.{Option, none, some}
+use mathlib.Core.Option.{none, some}
 use Prim.Native.Nat.{ℕ}
 use Rattle.protocol.specs.Kinds.{Kind, Row, end, _·_, unsigned, signed, specification, list}
 use Rattle.protocol.specs.Kinds as K
@@ -11,7 +11,6 @@ use Rattle.protocol.specs.Fields.{Field, Fields, number, integer, string
 use Rattle.protocol.specs.declared.chunk.Chunk.{Chunk}
 use Rattle.protocol.specs.declared.frame.Frame.{Frame}
 use Rattle.protocol.specs.declared.frame.Frame.the-variants.{DeclarePublisher, Publish, PublishV2, PublishConfirm, PublishError, QueryPublisher, DeletePublisher, Subscribe, Deliver, DeliverV2, Credit, StoreOffset, QueryOffset, Unsubscribe, Create, Delete, Metadata, MetadataUpdate, PeerProperties, SaslHandshake, SaslAuthenticate, Tune, Open, Close, Heartbeat, Route, Partitions, ConsumerUpdate, ExchangeCommandVersions, StreamStats, CreateSuperStream, DeleteSuperStream, DeclarePublisherResponse, QueryPublisherResponse, DeletePublisherResponse, SubscribeResponse, CreditResponse, QueryOffsetResponse, UnsubscribeResponse, CreateResponse, DeleteResponse, MetadataResponse, PeerPropertiesResponse, SaslHandshakeResponse, SaslAuthenticateResponse, TuneResponse, OpenResponse, CloseResponse, RouteResponse, PartitionsResponse, ConsumerUpdateResponse, ExchangeCommandVersionsResponse, StreamStatsResponse, CreateSuperStreamResponse, DeleteSuperStreamResponse}
-use Rattle.protocol.specs.declared.offset.OffsetSpecification.{OffsetSpecification}
 use Rattle.protocol.specs.declared.place.Elements.{Elements}
 use Rattle.protocol.specs.declared.place.NullablePlace.{NullablePlace}
 use Rattle.protocol.specs.declared.place.NullablePlace.the-variants.{Null, At}
@@ -100,11 +99,6 @@ fieldsOf (DeleteSuperStreamResponse c code) = under 0x801e 1 (number c ∷ codeF
 
 abbrev pub valuesOf : Frame → List ℕ → Fields (List ℕ)
 valuesOf f s = valuesIn s (fieldsOf f)
-
--- Two frames over two buffers have the same fields when the values and the bytes at the places agree. A null has no
--- place, so a null's place does not count.
-abbrev pub SameFields : Frame → List ℕ → Frame → List ℕ → Type 0
-SameFields f s g t = valuesOf f s ≡ valuesOf g t
 
 -- A field has its kind's parts and no other.
 abbrev pub OfKind : Kind → Field Place → Type 0

@@ -1,9 +1,11 @@
--- A layout in the code is six numbers and a list's element four, each for a kind of field or for none.
+-- A layout in the code is six numbers, and so is a list's element, each for a kind of field or for none.
+use mathlib.Core.Bool.{Bool, false, cond, _||_}
 use mathlib.Core.List.{List, [], _∷_}
 use mathlib.Core.Option.{Option, none, some}
 use Prim.Native.Nat.{ℕ, _-_, _^_}
+use lib.Dec.{eqb}
 use lib.ListN.{getD}
-use Rattle.protocol.specs.Kinds.{Kind, Row, end, _·_, list, plain, chunk, u8, u16, u32, u64, i64, active, T, T?, R, R?, B, B?, spec, spec₀, elementRow, unsigned, signed, string, specification, listOf}
+use Rattle.protocol.specs.Kinds.{Kind, Row, end, _·_, list, plain, chunk, u8, u16, u32, u64, i64, active, T, T?, R, R?, B, B?, spec, spec₀, elementRow, unsigned, string, specification, listOf}
 use Rattle.wire.specs.Integers.{widthOf}
 use Rattle.protocol.specs.declared.kind.FieldKind.{FieldKind}
 use Rattle.protocol.specs.declared.kind.FieldKind.the-variants.{Nothing, Number, Active, Signed, String, Specification, List as Listed, Chunk}
@@ -60,10 +62,22 @@ abbrev pub front : Option Kind → Row → Row
 front none row = row
 front (some k) row = k · row
 
+-- The row of numbers, by what each stands for.
+unfoldable pub rowBy : (ℕ → Option Kind) → List ℕ → Row
+rowBy kind [] = end
+rowBy kind (n ∷ ns) = front (kind n) (rowBy kind ns)
+
 -- The row of a layout.
-unfoldable pub rowFrom : List ℕ → Row
-rowFrom [] = end
-rowFrom (n ∷ ns) = front (kindOf n) (rowFrom ns)
+abbrev pub rowFrom : List ℕ → Row
+rowFrom ns = rowBy kindOf ns
+
+abbrev pub among : ℕ → List ℕ → Bool
+among k [] = false
+among k (j ∷ ks) = eqb k j || among k ks
+
+-- What a number stands for in a list's element: of all kinds, elements have [u16], T?, B, T, i64, u64, u32 and u16.
+abbrev pub elementKind : ℕ → Option Kind
+elementKind n = cond (among n (26 ∷ 10 ∷ 9 ∷ 7 ∷ 5 ∷ 4 ∷ 3 ∷ 2 ∷ [])) (kindOf n) none
 
 -- No field at all.
 abbrev pub blank : List ℕ

@@ -1,9 +1,9 @@
 -- The layouts (01 "Frame and keys"), a line each, in the paper's order and notation.
-use mathlib.Core.Bool.{Bool, cond, _&&_}
+use mathlib.Core.Bool.{cond, _&&_}
 use mathlib.Core.List.{List, [], _∷_}
 use Prim.Native.Nat.{ℕ}
 use lib.Dec.{eqb}
-use Rattle.protocol.specs.Kinds.{Kind, Row, end, _·_, list, plain, chunk, u8, u16, u32, u64, i64, active, c, rc, T, T?, R, R?, B, B?, spec, spec₀}
+use Rattle.protocol.specs.Kinds.{Row, end, _·_, list, plain, chunk, u8, u16, u32, u64, i64, active, c, rc, T, T?, R, R?, B, B?, spec, spec₀}
 
 -- A key, a version, and the content under them.
 pub record Listing : Type 0 where

@@ -1,12 +1,12 @@
 -- 01: "That is 53 keys, 55 layouts; no other key exists."
 use mathlib.Core.Path.{_≡_}
-use mathlib.Core.Bool.{Bool, true, false, cond, _||_, _&&_}
+use mathlib.Core.Bool.{true, false, cond}
 use mathlib.Core.List.{List, [], _∷_, _++_, map}
 use Prim.Native.Nat.{ℕ, suc, _+_}
-use lib.Dec.{eqb}
 use lib.ListN.{length}
-use Rattle.protocol.specs.Table.{Listing, table}
-use Rattle.protocol.specs.Decision.{Decision, layout, unlistedKey, decide}
+use Rattle.protocol.specs.Table.{table}
+use Rattle.protocol.specs.Decision.{layout, unlistedKey, decide}
+use Rattle.protocol.specs.Layouts.{among}
 
 -- The keys of requests and commands, and of those the ones that have a response, as 01 lists them.
 unfoldable pub requests : List ℕ
@@ -21,10 +21,6 @@ answered =
 
 unfoldable pub keys : List ℕ
 keys = requests ++ map (λ k. 0x8000 + k) answered
-
-abbrev pub among : ℕ → List ℕ → Bool
-among k [] = false
-among k (j ∷ ks) = eqb k j || among k ks
 
 -- How many different numbers a list has.
 abbrev pub different : List ℕ → ℕ

@@ -1,7 +1,7 @@
 // What kinds of field there are, and what kinds of byte string, of list and of list element.
 ghost use mathlib.Core.Path.{_≡_};
-ghost use Rattle.protocol.specs.Kinds.{elementRow, plainList};
-ghost use Rattle.protocol.specs.Layouts.{kindOf, kindSaid, rowFrom};
+ghost use Rattle.protocol.specs.Kinds.{plainList};
+ghost use Rattle.protocol.specs.Layouts.{kindOf, kindSaid};
 use crate::field;
 use wire::Width;
 
@@ -135,29 +135,5 @@ pub fn plain_list(element: Element) -> ListKind
             keys: Keys::MayRepeat,
             presence: Presence::Required,
         },
-    }
-}
-
-// The fields of an element, in wire order, with NONE behind the last. No element has more than four.
-pub fn element_fields(kind: Element) -> [u8; 4]
-    ensures { λ r. ⌜ rowFrom r ≡ elementRow kind ⌝ }
-{
-    match kind {
-        Element::Message => [field::U64, field::BYTES, field::NONE, field::NONE],
-        Element::FilteredMessage => [field::U64, field::NULLABLE_TEXT, field::BYTES, field::NONE],
-        Element::PublishingId => [field::U64, field::NONE, field::NONE, field::NONE],
-        Element::PublishingError => [field::U64, field::U16, field::NONE, field::NONE],
-        Element::Property => [field::TEXT, field::TEXT, field::NONE, field::NONE],
-        Element::Name => [field::TEXT, field::NONE, field::NONE, field::NONE],
-        Element::CommandVersions => [field::U16, field::U16, field::U16, field::NONE],
-        Element::Broker => [field::U16, field::TEXT, field::U32, field::NONE],
-        Element::StreamMetadata => [
-            field::TEXT,
-            field::U16,
-            field::U16,
-            field::BROKER_REFERENCES,
-        ],
-        Element::Statistic => [field::TEXT, field::I64, field::NONE, field::NONE],
-        Element::BrokerReference => [field::U16, field::NONE, field::NONE, field::NONE],
     }
 }

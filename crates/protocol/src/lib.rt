@@ -1,5 +1,6 @@
 // The protocol's vocabulary: refusal numbers, response codes, keys and their layouts, and the typed frame.
 mod chunk;
+mod element;
 pub mod field;
 mod frame;
 mod kind;
@@ -11,6 +12,7 @@ mod response_code;
 
 pub use chunk::Chunk;
 pub use chunk::ChunkHeader;
+pub use element::element_fields;
 pub use frame::Frame;
 pub use kind::Element;
 pub use kind::FieldKind;
@@ -19,7 +21,6 @@ pub use kind::Keys;
 pub use kind::ListKind;
 pub use kind::ListRule;
 pub use kind::Presence;
-pub use kind::element_fields;
 pub use kind::field_kind;
 pub use kind::plain_list;
 pub use layout::Decided;

@@ -1,6 +1,6 @@
 -- Demand 3 for the publisher ledger, from the law of any ledger: the step takes each call for what the history takes it
 -- for, and every declaration starts with no messages out. Assumes nothing.
-use Prim.Native.Nat.{ℕ, _+_, _≤_, _<_}
+use Prim.Native.Nat.{ℕ, _+_, _≤_}
 use mathlib.Core.Path.{_≡_, refl, sym, ap, _∙_}
 use mathlib.Core.Logic.{_↔_}
 use mathlib.Core.Bool.{Bool, true, false, cond}
@@ -9,7 +9,7 @@ use mathlib.Core.Option.{Option, none, some}
 use native.Mathlib.Omega.{arith}
 use lib.Dec.{eqb, leb}
 use Rattle.protocol.specs.Refusals.{overLimit, notOut}
-use Rattle.ledger.specs.Calls.{Op, start, add, take, stop, Purpose, Answer, accepted, refused, Accepted, answerBy}
+use Rattle.ledger.specs.Calls.{Op, start, add, take, stop, accepted, refused, answerBy}
 use Rattle.ledger.specs.History.{refusalBy, acceptedFor, AllWithin, note}
 use Rattle.ledger.specs.History.{opening as openingOf}
 use Rattle.ledger.specs.Demand3.{history, Demand3, Agree}

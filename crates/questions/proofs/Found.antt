@@ -34,7 +34,7 @@ use Rattle.rules.proofs.Sound.{values-further-on, sound}
 use Rattle.rules.proofs.SoundFields.{Element}
 use Rattle.rules.proofs.WriteField.{placed}
 use Rattle.questions.specs.Found.{Each, encodeElements, textOf, octetsOf, AllElements, encodeEntries, messageCount, AllMessages, FieldFound, RowFound, EverythingIsFound, PartsAreTheFields, NullablePartIsTheField}
-use Rattle.questions.specs.Questions.{found, refusal, asked, readNth, elementAt, messageAt, octetsIn, placeIn, fieldPart, messagePart}
+use Rattle.questions.specs.Questions.{found, refusal, asked, readNth, elementAt, messageAt, messageOf, octetsIn, placeIn, fieldPart, messagePart}
 use Rattle.questions.proofs.Questions.{part-inside, parts-are-values, entry-inside, element-inside, message-inside}
 
 -- ---- Pieces, one after another
@@ -108,7 +108,7 @@ module _ (s : List ℕ) where
   element-part row count p n i fs e = ap (fieldPart n s) e ∙ octets-there n fs (element-inside s p i row count fs e)
 
   message-part : (h : ChunkHeader) (p : Place) (i : ℕ) (q : Place) → messageAt s h p i ≡ found q → messagePart s (messageAt s h p i) ≡ bytesAt s q
-  message-part h p i q e = ap (messagePart s) e ∙ part-inside s q (message-inside s p i h q e)
+  message-part h p i q e = ap (messagePart s) e ∙ part-inside s q (message-inside s p i (h .«chunk_type») (h .entries) q e)
 
 module _ (s : List ℕ) (p : Place) (there : EndsBy (length s) (some p)) where
   abbrev part : List ℕ
@@ -197,11 +197,11 @@ module _ (s : List ℕ) (p : Place) (there : EndsBy (length s) (some p)) where
       ap₂ (λ x y. x ++ y) (ap (λ b. digits 4 (length b) ++ b) m ∙ ap (λ k. digits 4 k ++ bytesAt part q) n) (same-entries all (h .1))
 
   message-there : (h : ChunkHeader) → hasEntries (h .«chunk_type») ≡ true → (all : List Place) → length all ≡ h .entries → (i : ℕ) → i < h .entries → (next : ℕ) × (readNth readEntry i part ≡ got (getD all i (place 0 0)) next) → messageAt s h p i ≡ found (getD (map (further (p .at)) all) i (place 0 0))
-  unfolding messageAt
+  unfolding messageOf
   message-there h z all n i l (next, e) = rw (within, z, lt-leb (h .entries) i l) (asked-got (further (p .at)) _ (getD all i (place 0 0)) next e ∙ ap found (getD-map (further (p .at)) all i (place 0 0) (place 0 0) (omega (arith, l, n))))
 
   message-beyond : (h : ChunkHeader) (i : ℕ) → messageCount h ≤ i → messageAt s h p i ≡ refusal valueNotAdmitted
-  unfolding messageAt
+  unfolding messageOf
   message-beyond h i l = by (hasEntries (h .«chunk_type»)) refl
     where
       by : (t : Bool) → hasEntries (h .«chunk_type») ≡ t → messageAt s h p i ≡ refusal valueNotAdmitted

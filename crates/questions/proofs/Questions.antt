@@ -7,17 +7,17 @@ use mathlib.Core.Option.{Option, none, some, Option·map}
 use Prim.Native.Nat.{ℕ, _+_, _≤_}
 use native.Mathlib.Omega.{arith}
 use lib.Dec.{ltb, leb}
+use lib.IntN.{ℤ}
 use lib.ListN.{length}
 use borrow.Author.Tests.{le-ltb, ltb-false}
 use Rattle.wire.specs.Integers.{bigEndian}
 use Rattle.protocol.specs.Fields.{Field, bytesAt, outside, overPlaces, valueIn, further, EndsBy, PlacesEndBy}
 use Rattle.protocol.specs.Kinds.{Row}
 use Rattle.protocol.specs.Refusals.{fieldCut, valueNotAdmitted}
-use Rattle.protocol.specs.declared.chunk.ChunkHeader.{ChunkHeader}
 use Rattle.protocol.specs.declared.place.Place.{Place}
 use Rattle.rules.specs.Outcome.{Outcome, got, refused, then, repeated, mapped}
 use Rattle.rules.specs.Reading.{hasEntries, readEntry, readRow}
-use Rattle.questions.specs.Questions.{Asked, found, refusal, asked, readNth, elementAt, messageAt, partAt}
+use Rattle.questions.specs.Questions.{Asked, found, refusal, asked, readNth, elementAt, messageOf, partAt}
 use Rattle.rules.proofs.Bounds.{FieldNumber, FieldNumbered, Bounded, bounded-repeated, bounded-row, bounded-entry}
 use Rattle.rules.proofs.Gives.{Gives, choice, check, after-number}
 use Rattle.rules.proofs.Inside.{inside-row, moved}
@@ -123,21 +123,21 @@ module _ (s : List ℕ) (p : Place) (index : ℕ) where
       sum : (b a l n : ℕ) → b + n ≤ length s → a + l ≤ n → b + a + l ≤ length s
       sum b a l n h k = omega (arith, h, k)
 
-  module _ (h : ChunkHeader) where
-    message-answers : Answers Within (messageAt s h p index)
-    unfolding messageAt
+  module _ (type : ℤ) (entries : ℕ) where
+    message-answers : Answers Within (messageOf s type entries p index)
+    unfolding messageOf
     message-answers =
         choice (Answers Within) (outside p s) _ _ (λ _. is-6) (λ o.
-        choice (Answers Within) (not (hasEntries (h .«chunk_type»))) _ _ (λ _. is-10) (λ _.
-        choice (Answers Within) (leb (h .entries) index) _ _ (λ _. is-10) (λ _.
+        choice (Answers Within) (not (hasEntries type)) _ _ (λ _. is-10) (λ _.
+        choice (Answers Within) (leb entries index) _ _ (λ _. is-10) (λ _.
         answers (λ q _. EndsBy (length (bytesAt s p)) (some q)) Within _ (readNth readEntry index (bytesAt s p))
         (λ q _ k. further-inside (bytesAt s p) q (room o) k)
         (nth-gives readEntry (bytesAt s p) index _ (λ at. entry-inside (bytesAt s p) at))
         (nth-bounded readEntry (bytesAt s p) index (bounded-entry (bytesAt s p))))))
 
     -- A message that is found lies within the source.
-    pub message-inside : (q : Place) → messageAt s h p index ≡ found q → EndsBy (length s) (some q)
+    pub message-inside : (q : Place) → messageOf s type entries p index ≡ found q → EndsBy (length s) (some q)
     message-inside q e = subst (Answers Within) e message-answers
 
-    pub message-number : (n : ℕ) → messageAt s h p index ≡ refusal n → FieldNumber n
+    pub message-number : (n : ℕ) → messageOf s type entries p index ≡ refusal n → FieldNumber n
     message-number n e = subst (Answers Within) e message-answers

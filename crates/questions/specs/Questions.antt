@@ -5,6 +5,7 @@ use mathlib.Core.List.{List, [], _∷_, map}
 use mathlib.Core.Option.{Option, none, some}
 use Prim.Native.Nat.{ℕ, zero, suc}
 use lib.Dec.{leb}
+use lib.IntN.{ℤ}
 use Rattle.protocol.specs.Fields.{Field, bytesAt, outside, overPlaces, further}
 use Rattle.protocol.specs.Kinds.{Row}
 use Rattle.protocol.specs.Refusals.{fieldCut, valueNotAdmitted}
@@ -41,14 +42,17 @@ elementAt row s count p index =
     (cond (leb count index) (refusal valueNotAdmitted)
     (asked (mapped (map (overPlaces (further (p .at)))) (readNth (readRow row) index (bytesAt s p)))))
 
--- The place of the message at an index: the data's place outside the source (6), a type other than 0 (10), the index at or
--- above the entry count (10), then the entries up to the one asked for, within the place.
-unfoldable pub messageAt : List ℕ → ChunkHeader → Place → ℕ → Asked Place
-messageAt s h p index =
+-- The place of the message at an index, by the chunk's type and entry count: the data's place outside the source (6), a type other
+-- than 0 (10), the index at or above the entry count (10), then the entries up to the one asked for, within the place.
+unfoldable pub messageOf : List ℕ → ℤ → ℕ → Place → ℕ → Asked Place
+messageOf s type entries p index =
     cond (outside p s) (refusal fieldCut)
-    (cond (not (hasEntries (h .«chunk_type»))) (refusal valueNotAdmitted)
-    (cond (leb (h .entries) index) (refusal valueNotAdmitted)
+    (cond (not (hasEntries type)) (refusal valueNotAdmitted)
+    (cond (leb entries index) (refusal valueNotAdmitted)
     (asked (mapped (further (p .at)) (readNth readEntry index (bytesAt s p))))))
+
+abbrev pub messageAt : List ℕ → ChunkHeader → Place → ℕ → Asked Place
+messageAt s h p index = messageOf s (h .«chunk_type») (h .entries) p index
 
 -- The part of the source at a place: empty if the place reaches outside.
 abbrev pub partAt : List ℕ → Place → List ℕ

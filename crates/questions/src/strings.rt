@@ -1,156 +1,67 @@
-// The texts and byte strings of elements, as parts of the caller's bytes. A null and a refusal give an empty part.
+// The texts and byte strings of elements, as parts of the caller's bytes.
 ghost use mathlib.Core.Path.{_≡_};
-ghost use Prim.Native.Nat.{_<_};
-ghost use Rattle.protocol.specs.Frames.{nullableField};
+ghost use mathlib.Core.List.{List};
+ghost use Prim.Native.Nat.{ℕ, _<_};
+ghost use lib.ListN.{drop, length};
 ghost use Rattle.protocol.specs.Kinds.{elementRow};
-ghost use Rattle.protocol.specs.declared.kind.Element.the-variants.{Message, FilteredMessage, Property, Name, Broker, StreamMetadata, Statistic};
-ghost use Rattle.questions.specs.Questions.{elementAt, fieldPart, placeIn};
-ghost use Rattle.questions.specs.Answer.{elementFields};
+ghost use Rattle.protocol.specs.Layouts.{kindSaid};
+ghost use Rattle.slots.specs.Unflat.{unflatRow};
+ghost use Rattle.questions.specs.Answer.{octetsOfSlots};
+ghost use Rattle.questions.specs.Questions.{elementAt, fieldPart, octetsIn, partAt, placeIn};
 use crate::asking::element;
-use crate::list_element::AskedElement;
-use crate::list_element::ListElement;
-use crate::parts::nullable_part;
+use crate::parts::part;
 use protocol::Element;
 use protocol::Elements;
-use protocol::NullablePlace;
+use protocol::FieldKind;
+use protocol::Place;
+use protocol::element_fields;
+use protocol::field_kind;
+use slots::place_of;
+use slots::slot;
+use slots::slots_of;
 
-// The message of a Publish.
-pub fn published_message(s: &[u8], list: Elements, index: usize) -> &[u8]
-    ensures { λ r. ⌜ now r ≡ fieldPart 1 (now (s .entry)) (elementAt (elementRow Message) (now (s .entry)) (list .count) (list .place) index) ⌝ }
-{
-    field_part(Element::Message, 1, s, list, index)
-}
-
-// The filter value of a Publish of version 2.
-pub fn filter_value(s: &[u8], list: Elements, index: usize) -> &[u8]
-    ensures { λ r. ⌜ now r ≡ fieldPart 1 (now (s .entry)) (elementAt (elementRow FilteredMessage) (now (s .entry)) (list .count) (list .place) index) ⌝ }
-{
-    field_part(Element::FilteredMessage, 1, s, list, index)
-}
-
-// The message of a Publish of version 2.
-pub fn filtered_message(s: &[u8], list: Elements, index: usize) -> &[u8]
-    ensures { λ r. ⌜ now r ≡ fieldPart 2 (now (s .entry)) (elementAt (elementRow FilteredMessage) (now (s .entry)) (list .count) (list .place) index) ⌝ }
-{
-    field_part(Element::FilteredMessage, 2, s, list, index)
-}
-
-// The key of a property.
-pub fn property_key(s: &[u8], list: Elements, index: usize) -> &[u8]
-    ensures { λ r. ⌜ now r ≡ fieldPart 0 (now (s .entry)) (elementAt (elementRow Property) (now (s .entry)) (list .count) (list .place) index) ⌝ }
-{
-    field_part(Element::Property, 0, s, list, index)
-}
-
-// The value of a property.
-pub fn property_value(s: &[u8], list: Elements, index: usize) -> &[u8]
-    ensures { λ r. ⌜ now r ≡ fieldPart 1 (now (s .entry)) (elementAt (elementRow Property) (now (s .entry)) (list .count) (list .place) index) ⌝ }
-{
-    field_part(Element::Property, 1, s, list, index)
-}
-
-// A stream, mechanism, partition or binding key.
-pub fn name(s: &[u8], list: Elements, index: usize) -> &[u8]
-    ensures { λ r. ⌜ now r ≡ fieldPart 0 (now (s .entry)) (elementAt (elementRow Name) (now (s .entry)) (list .count) (list .place) index) ⌝ }
-{
-    field_part(Element::Name, 0, s, list, index)
-}
-
-// The host of a broker in Metadata's response.
-pub fn broker_host(s: &[u8], list: Elements, index: usize) -> &[u8]
-    ensures { λ r. ⌜ now r ≡ fieldPart 1 (now (s .entry)) (elementAt (elementRow Broker) (now (s .entry)) (list .count) (list .place) index) ⌝ }
-{
-    field_part(Element::Broker, 1, s, list, index)
-}
-
-// The stream of an element of Metadata's response.
-pub fn stream_name(s: &[u8], list: Elements, index: usize) -> &[u8]
-    ensures { λ r. ⌜ now r ≡ fieldPart 0 (now (s .entry)) (elementAt (elementRow StreamMetadata) (now (s .entry)) (list .count) (list .place) index) ⌝ }
-{
-    field_part(Element::StreamMetadata, 0, s, list, index)
-}
-
-// The key of a statistic of StreamStats' response.
-pub fn statistic_key(s: &[u8], list: Elements, index: usize) -> &[u8]
-    ensures { λ r. ⌜ now r ≡ fieldPart 0 (now (s .entry)) (elementAt (elementRow Statistic) (now (s .entry)) (list .count) (list .place) index) ⌝ }
-{
-    field_part(Element::Statistic, 0, s, list, index)
-}
-
-// The field at an index of an element, of which no kind has a text or byte string behind its third field.
-fn field_part(kind: Element, field: usize, s: &[u8], list: Elements, index: usize) -> &[u8]
-    requires { ⌜ field < 3 ⌝ }
+// The bytes of the field at an index of an element: of its text or byte string, or of the elements of its list. A number, a null
+// and a refusal have none, and the part is empty.
+pub fn field_part(kind: Element, field: usize, s: &[u8], list: Elements, index: usize) -> &[u8]
     ensures { λ r. ⌜ now r ≡ fieldPart field (now (s .entry)) (elementAt (elementRow kind) (now (s .entry)) (list .count) (list .place) index) ⌝ }
 {
-    match element(kind, s, list, index) {
-        AskedElement::Element(e) => nullable_part(s, string_in(e, field)),
-        AskedElement::Refused(_) => &s[..0],
+    let mut slots = [0u64; 8];
+    if element(kind, s, list, index, &mut slots) != 0 {
+        return &s[..0];
     }
+    part(s, place_in(kind, field, slots))
 }
 
-fn string_in(e: ListElement, field: usize) -> NullablePlace
-    requires { ⌜ field < 3 ⌝ }
-    ensures { λ r. ⌜ nullableField r .octets ≡ placeIn field (elementFields e) ⌝ }
+// Where the bytes of a field are, by the slots of its element. A null's place is outside every source.
+fn place_in(kind: Element, field: usize, slots: [u64; 8]) -> Place
+    ensures { λ r. ⌜ ((s : List ℕ) → length s < 0x8000_0000_0000_0000 → partAt s r ≡ octetsIn s (placeIn field (unflatRow (elementRow kind) slots))) ⌝ }
 {
-    if field == 0 {
-        return first_string(e);
+    let fields = element_fields(kind);
+    let mut before = field;
+    let mut at: usize = 0;
+    let mut i: usize = 0;
+    while i < 6 {
+        let kind = field_kind(fields[i]);
+        let n = slots_of(kind);
+        if n != 0 {
+            if before == 0 {
+                return field_place(kind, &slots[..], at);
+            }
+            before -= 1;
+            at += n;
+        }
+        i += 1;
     }
-    if field == 1 {
-        return second_string(e);
-    }
-    third_string(e)
+    Place { at: 0, len: 0 }
 }
 
-fn first_string(e: ListElement) -> NullablePlace
-    ensures { λ r. ⌜ nullableField r .octets ≡ placeIn 0 (elementFields e) ⌝ }
+fn field_place(kind: FieldKind, slots: &[u64], at: usize) -> Place
+    ensures { λ r. ⌜ ((s : List ℕ) → length s < 0x8000_0000_0000_0000 → partAt s r ≡ octetsIn s (octetsOfSlots (kindSaid kind) (drop at (now (slots .entry))))) ⌝ }
 {
-    match e {
-        ListElement::Message { .. } => NullablePlace::Null,
-        ListElement::FilteredMessage { .. } => NullablePlace::Null,
-        ListElement::PublishingId { .. } => NullablePlace::Null,
-        ListElement::PublishingError { .. } => NullablePlace::Null,
-        ListElement::Property { key, .. } => NullablePlace::At(key),
-        ListElement::Name { name, .. } => NullablePlace::At(name),
-        ListElement::CommandVersions { .. } => NullablePlace::Null,
-        ListElement::Broker { .. } => NullablePlace::Null,
-        ListElement::StreamMetadata { stream, .. } => NullablePlace::At(stream),
-        ListElement::Statistic { key, .. } => NullablePlace::At(key),
-        ListElement::BrokerReference { .. } => NullablePlace::Null,
-    }
-}
-
-fn second_string(e: ListElement) -> NullablePlace
-    ensures { λ r. ⌜ nullableField r .octets ≡ placeIn 1 (elementFields e) ⌝ }
-{
-    match e {
-        ListElement::Message { message, .. } => NullablePlace::At(message),
-        ListElement::FilteredMessage { filter_value, .. } => filter_value,
-        ListElement::PublishingId { .. } => NullablePlace::Null,
-        ListElement::PublishingError { .. } => NullablePlace::Null,
-        ListElement::Property { value, .. } => NullablePlace::At(value),
-        ListElement::Name { .. } => NullablePlace::Null,
-        ListElement::CommandVersions { .. } => NullablePlace::Null,
-        ListElement::Broker { host, .. } => NullablePlace::At(host),
-        ListElement::StreamMetadata { .. } => NullablePlace::Null,
-        ListElement::Statistic { .. } => NullablePlace::Null,
-        ListElement::BrokerReference { .. } => NullablePlace::Null,
-    }
-}
-
-fn third_string(e: ListElement) -> NullablePlace
-    ensures { λ r. ⌜ nullableField r .octets ≡ placeIn 2 (elementFields e) ⌝ }
-{
-    match e {
-        ListElement::Message { .. } => NullablePlace::Null,
-        ListElement::FilteredMessage { message, .. } => NullablePlace::At(message),
-        ListElement::PublishingId { .. } => NullablePlace::Null,
-        ListElement::PublishingError { .. } => NullablePlace::Null,
-        ListElement::Property { .. } => NullablePlace::Null,
-        ListElement::Name { .. } => NullablePlace::Null,
-        ListElement::CommandVersions { .. } => NullablePlace::Null,
-        ListElement::Broker { .. } => NullablePlace::Null,
-        ListElement::StreamMetadata { .. } => NullablePlace::Null,
-        ListElement::Statistic { .. } => NullablePlace::Null,
-        ListElement::BrokerReference { .. } => NullablePlace::Null,
+    match kind {
+        FieldKind::String { .. } => place_of(slot(slots, at, 0), slot(slots, at, 1)),
+        FieldKind::List(_) => place_of(slot(slots, at, 1), slot(slots, at, 2)),
+        FieldKind::Chunk => place_of(slot(slots, at, 12), slot(slots, at, 13)),
+        _ => Place { at: 0, len: 0 },
     }
 }

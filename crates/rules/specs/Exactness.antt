@@ -6,7 +6,7 @@ use mathlib.Core.List.{List, _++_}
 use mathlib.Core.Logic.{_⊎_}
 use Prim.Native.Nat.{ℕ, _+_, _<_}
 use lib.Dec.{ltb}
-use lib.ListN.{length, take}
+use lib.ListN.{take}
 use Rattle.wire.specs.Integers.{Bytes, bigEndian}
 use Rattle.protocol.specs.Fields.{Fields, valuesIn, PlacesEndBy}
 use Rattle.protocol.specs.declared.place.Place.{Place}

@@ -1,12 +1,12 @@
 -- What is well formed, and how it is encoded (01 "Numbers and text on the wire", "Frame and keys", "Chunks"): the wire's
 -- grammar, which knows nothing of reading. A value is a field that holds the bytes themselves.
 use mathlib.Core.Path.{_≡_}
-use mathlib.Core.Bool.{Bool, true, false}
+use mathlib.Core.Bool.{Bool, true}
 use mathlib.Core.List.{List, [], _∷_, _++_}
 use mathlib.Core.Logic.{_⊎_}
 use mathlib.Core.Option.{Option, none, some}
 use Prim.Native.Nat.{ℕ, zero, suc, _+_, _-_, _/_, _^_, _≤_, _<_}
-use lib.IntN.{ℤ, pos}
+use lib.IntN.{pos}
 use lib.ListN.{length}
 use Rattle.wire.specs.Integers.{digits}
 use Rattle.wire.specs.Signed as two's

@@ -3,7 +3,7 @@
 use mathlib.Core.Bool.{Bool, true, false, cond, not, _&&_, _||_}
 use mathlib.Core.List.{List, [], _∷_, _++_}
 use mathlib.Core.Option.{Option, none, some}
-use Prim.Native.Nat.{ℕ, zero, suc, _+_, _-_, _/_, _^_}
+use Prim.Native.Nat.{ℕ, _+_, _-_, _/_, _^_}
 use lib.Dec.{eqb, ltb, leb}
 use lib.IntN.{ℤ, pos, negsuc}
 use lib.ListN.{length as len}
@@ -17,7 +17,6 @@ use Rattle.protocol.specs.Refusals.{frameTooLarge, unknownKey, unknownVersion, 
 use Rattle.protocol.specs.Table.{rowOf}
 use Rattle.protocol.specs.declared.chunk.ChunkHeader.{ChunkHeader}
 use Rattle.protocol.specs.declared.kind.Form.{Form}
-use Rattle.protocol.specs.declared.kind.Form.the-variants.{Text, Reference, Bytes}
 use Rattle.protocol.specs.declared.offset.OffsetSpecification.{OffsetSpecification}
 use Rattle.protocol.specs.declared.offset.OffsetSpecification.the-variants.{None, First, Last, Next, Offset, Timestamp}
 use Rattle.protocol.specs.declared.place.Place.{Place}

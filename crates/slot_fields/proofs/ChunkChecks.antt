@@ -20,13 +20,15 @@ use Rattle.protocol.specs.declared.place.Place.{Place}
 use Rattle.rules.specs.Grammar.{encodeHeader}
 use Rattle.rules.specs.Outcome.{Outcome, got, refused, then, refuseIf, repeated}
 use Rattle.rules.specs.Reading.{isChunkType, hasEntries, readEntry}
-use Rattle.rules.specs.Writing.{Encoding, wrote, refuse, checked, fitsHeader, usedUp, writeChunk, writeField}
-use Rattle.rules.proofs.Bounds.{Numbered, numbered-entry, numbered-repeated}
+use Rattle.rules.specs.Writing.{wrote, checked, fitsHeader, usedUp, writeChunk, writeField}
+use Rattle.rules.proofs.Bounds.{numbered-entry, numbered-repeated}
+use Rattle.fields.specs.Stops.{stop}
+use Rattle.fields.specs.Writer.{refusalOf}
+use Rattle.fields.specs.declared.stop.Stop.{Stop}
+use Rattle.fields.proofs.Checked.{Only, only-checked, only-used, only-these, check-passed}
 use Rattle.fields.proofs.Parts.{lent}
-use Rattle.chunks.specs.Stops.{stop, entriesFrom}
-use Rattle.chunks.specs.declared.entry.Stop.{Stop}
+use Rattle.chunks.specs.Entries.{entriesFrom}
 use Rattle.slots.specs.Unflat.{unflatField, unflatHeader}
-use Rattle.slot_fields.specs.Writing.{refusalOf}
 
 -- ---- The checks in their order
 
@@ -94,32 +96,6 @@ module _ (src t : List ℕ) (kind len from size : ℕ) (k : kind ≡ getD t 1 0)
 
 -- ---- What is not refused
 
-module _ (b : List ℕ) where
-  -- An encoding that is either these bytes or a refusal.
-  abbrev Only : Encoding → Type 0
-  Only (wrote a) = a ≡ b
-  Only (refuse n) = n ≡ 0 → ⊥
-
-  only-checked : (t : Bool) (n : ℕ) (rest : Encoding) → (n ≡ 0 → ⊥) → Only rest → Only (checked t n rest)
-  only-checked true n rest z o = z
-  only-checked false n rest z o = o
-
-  only-used : (o : Outcome Unit) (part : List ℕ) (rest : Encoding) → Numbered o → Only rest → Only (usedUp o part rest)
-  only-used (got _ last) part rest n o = only-checked (ltb last (length part)) bytesLeft rest (λ e. omega (arith, e)) o
-  only-used (refused m p) part rest n o = n
-
-  not-refused : (e : Encoding) → Only e → refusalOf e ≡ 0 → e ≡ wrote b
-  not-refused (wrote a) o z = ap wrote o
-  not-refused (refuse n) o z = absurd (o z)
-
-pub refused-as : (e : Encoding) (n : ℕ) → n ≡ refusalOf e → (n ≡ 0 → ⊥) → e ≡ refuse n
-refused-as (wrote a) n i z = absurd (z i)
-refused-as (refuse m) n i z = ap refuse (sym i)
-
-passed : (t : Bool) (n : ℕ) (rest : Encoding) → (n ≡ 0 → ⊥) → refusalOf (checked t n rest) ≡ 0 → (t ≡ false) × (refusalOf rest ≡ 0)
-passed true n rest z e = absurd (z e)
-passed false n rest z e = (refl, e)
-
 pub record ChunkWritten (src : List ℕ) (h : ChunkHeader) (p : Place) : Type 0 where
   pub inside : p .at + p .len ≤ length src
   pub is : writeChunk src h p ≡ wrote (encodeHeader h ++ bytesAt src p)
@@ -145,8 +121,8 @@ module _ (src : List ℕ) (h : ChunkHeader) (p : Place) where
   unfolding writeChunk
   written n e z =
       let r : refusalOf (writeChunk src h p) ≡ 0 = sym e ∙ z in
-      let o = passed (outside p src) fieldCut _ (λ k. omega (arith, k)) (passed (not (isChunkType (h .«chunk_type») && fitsHeader h)) valueNotAdmitted _ (λ k. omega (arith, k)) r .1) .0 in
-      record { inside = ltb-false _ _ o; is = not-refused (encodeHeader h ++ bytesAt src p) (writeChunk src h p) only-chunk r }
+      let o = check-passed (outside p src) fieldCut _ (λ k. omega (arith, k)) (check-passed (not (isChunkType (h .«chunk_type») && fitsHeader h)) valueNotAdmitted _ (λ k. omega (arith, k)) r .1) .0 in
+      record { inside = ltb-false _ _ o; is = only-these (encodeHeader h ++ bytesAt src p) (writeChunk src h p) only-chunk r }
 
 -- ---- Its length
 

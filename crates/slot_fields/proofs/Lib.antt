@@ -1,8 +1,7 @@
 -- Lemmas that belong to no one function.
-mod FlatFields
+pub mod FieldSlots
+pub mod RowSlots
+pub mod FlatFields
+pub mod Rows
 pub mod ChunkChecks
-mod Narrowing
-mod Into
-pub mod Walk
-mod Rows
-pub mod Contents
+pub mod Narrowing

@@ -1,13 +1,13 @@
 -- A row is written kind by kind, each from the slots behind those of the kinds in front of it. Assumes nothing.
 use mathlib.Core.Path.{_≡_, refl, _∙_, sym, ap}
-use mathlib.Core.List.{List, [], _∷_}
+use mathlib.Core.List.{List}
 use mathlib.Core.Option.{Option, none, some}
-use Prim.Native.Nat.{ℕ, suc, _+_, _<_}
+use Prim.Native.Nat.{ℕ, _+_, _<_}
 use native.Mathlib.Numerals.{add-one}
 use lib.ListN.{length, getD, drop}
 use lib.Seq.{drop-cons, drop-drop, drop-length}
-use Rattle.protocol.specs.Kinds.{Kind, Row, end}
-use Rattle.protocol.specs.Layouts.{kindOf, front, rowFrom}
+use Rattle.protocol.specs.Kinds.{Kind, Row}
+use Rattle.protocol.specs.Layouts.{kindOf, front, rowBy, rowFrom}
 use Rattle.fields.specs.Writer.{State, stepRow}
 use Rattle.slots.specs.Unflat.{slotsFor, unflatRow}
 use Rattle.slot_fields.specs.Writing.{stepKind}
@@ -27,7 +27,7 @@ module _ (fields src s : List ℕ) where
 
   -- The kind at an index, then the others.
   pub writes-next : (i at n : ℕ) (t u : State) → i < length fields → n ≡ slotsFor (kindOf (getD fields i 0)) → u ≡ stepKind (kindOf (getD fields i 0)) src (drop at s) t → stepSlots (rest i) src (drop at s) t ≡ stepSlots (rest (i + 1)) src (drop (at + n) s) u
-  unfolding rowFrom
+  unfolding rowBy
   writes-next i at n t u h e j =
       let k = kindOf (getD fields i 0) in
       let others : Row = rest (i + 1) in
@@ -38,5 +38,5 @@ module _ (fields src s : List ℕ) where
       ∙ ap (λ (x : State). stepSlots others src (drop (at + n) s) x) (sym j)
 
   pub written : (i at : ℕ) (t : State) → i ≡ length fields → stepSlots (rest i) src (drop at s) t ≡ t
-  unfolding rowFrom stepRow
+  unfolding rowBy stepRow
   written i at t h = rw (h, drop-length fields)

@@ -3,7 +3,6 @@ use mathlib.Core.List.{List}
 use mathlib.Core.Option.{Option, none, some}
 use Prim.Native.Nat.{ℕ}
 use Rattle.protocol.specs.Kinds.{Kind}
-use Rattle.rules.specs.Writing.{Encoding, wrote, refuse}
 use Rattle.fields.specs.Writer.{State, stepField}
 use Rattle.slots.specs.Unflat.{unflatField}
 
@@ -15,8 +14,3 @@ stepFlat kind src s t = stepField kind src (unflatField kind s) t
 abbrev pub stepKind : Option Kind → List ℕ → List ℕ → State → State
 stepKind none src s t = t
 stepKind (some kind) src s t = stepFlat kind src s t
-
--- The number of a refusal; 0 where there is none.
-abbrev pub refusalOf : Encoding → ℕ
-refusalOf (wrote b) = 0
-refusalOf (refuse n) = n

@@ -1,21 +1,21 @@
 // Writing a chunk from its slots.
 ghost use mathlib.Core.Path.{_≡_};
-ghost use Prim.Native.Nat.{_-_, _^_};
 ghost use lib.ListN.{drop};
 ghost use Rattle.wire.specs.Buffer.{holds, put};
 ghost use Rattle.wire.specs.Integers.{digits, widthOf};
 ghost use Rattle.wire.specs.Signed.{signed, unsigned};
 ghost use Rattle.protocol.specs.Kinds as K;
 ghost use Rattle.rules.specs.Writing.{fitsHeader, writeField};
-ghost use Rattle.fields.specs.Writer.{state, putField, putHeader};
+ghost use Rattle.fields.specs.Writer.{state, putField, putHeader, refusalOf};
 ghost use Rattle.slots.specs.Unflat.{unflatField, unflatHeader};
 ghost use Rattle.slot_fields.specs.Narrow.{narrow, narrowFits};
-ghost use Rattle.slot_fields.specs.Writing.{refusalOf, stepFlat};
+ghost use Rattle.slot_fields.specs.Writing.{stepFlat};
 use chunks::entries_of;
 use chunks::has_entries;
 use chunks::is_chunk_type;
 use fields::Writer;
 use fields::is_outside;
+use fields::largest;
 use protocol::Place;
 use protocol::refusal;
 use slots::slot;
@@ -155,17 +155,5 @@ fn put_header(out: &mut [u8], place: usize, slots: &[u64], at: usize) -> usize
 fn put_signed(out: &mut [u8], at: usize, width: Width, x: u64) -> usize
     ensures { λ r. ⌜ holds (now (out .exit)) r ≡ put (now (out .entry)) at (digits (widthOf width) (unsigned (widthOf width) (signed 8 x))) ⌝ }
 {
-    wire::put_number(out, at, width, narrowed(x, ones(width)))
-}
-
-fn ones(width: Width) -> u64
-    ensures { λ r. ⌜ r ≡ 256 ^ widthOf width - 1 ⌝ }
-{
-    match width {
-        Width::One => 0xff,
-        Width::Two => 0xffff,
-        Width::Three => 0xff_ffff,
-        Width::Four => 0xffff_ffff,
-        Width::Eight => 0xffff_ffff_ffff_ffff,
-    }
+    wire::put_number(out, at, width, narrowed(x, largest(width)))
 }

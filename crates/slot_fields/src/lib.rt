@@ -6,4 +6,5 @@ mod writing;
 pub use chunk::chunk_refusal;
 pub use chunk::put_chunk;
 pub use reading::read_content;
+pub use reading::read_element;
 pub use writing::write_fields;

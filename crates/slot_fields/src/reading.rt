@@ -1,223 +1,312 @@
 // Fields read into their slots.
-ghost use mathlib.Core.Bool.{true, false};
 ghost use mathlib.Core.Path.{_≡_};
-ghost use Prim.Native.Nat.{_+_, _-_, _^_, _≤_};
+ghost use mathlib.Core.List.{_++_};
+ghost use Prim.Native.Nat.{ℕ, _+_, _<_, _≤_};
 ghost use lib.ListN.{length};
-ghost use Rattle.protocol.specs.Kinds.{i64, listOf, unsigned, specification};
+ghost use Rattle.wire.specs.Integers.{widthOf};
+ghost use Rattle.protocol.specs.Fields.{place};
+ghost use Rattle.protocol.specs.Kinds.{elementRow, i64, listOf, unsigned, specification};
 ghost use Rattle.protocol.specs.Kinds as K;
 ghost use Rattle.protocol.specs.Layouts.{kindSaid, rowFrom};
-ghost use Rattle.rules.specs.Reading.{readContent, readRow};
-ghost use Rattle.wire.specs.Integers.{widthOf};
-ghost use Rattle.fields.specs.Cursor.{landed};
-ghost use Rattle.slots.specs.Unflat.{slotsIn};
-ghost use Rattle.slot_fields.specs.Reading.{IntoSlots, Into, Filled, contentSlots};
-use chunks::chunk_field;
-use fields::Cursor;
-use fields::i64_field;
+ghost use Rattle.rules.specs.Reading.{headerAt, readContent, readField, readRow};
+ghost use Rattle.fields.specs.Stops.{stop};
+ghost use Rattle.lists.specs.Ends.{fieldEnd};
+ghost use Rattle.slots.specs.Flat.{flatHeader, flatPlace};
+ghost use Rattle.slot_fields.specs.Reading.{elementIn, contentSlots, elementSlots, fieldSlots, kindSlots, Filled};
+use chunks::chunk_end;
+use fields::Stop;
+use fields::is_null;
+use fields::is_outside;
 use fields::largest;
-use fields::nullable_field;
-use fields::offset_field;
-use fields::string_field;
-use fields::unsigned_field;
-use lists::list_field;
+use fields::length_width;
+use fields::number_end;
+use fields::specification_end;
+use fields::string_end;
+use fields::unsigned_end;
+use lists::count_at;
+use lists::list_end;
+use protocol::Element;
 use protocol::FieldKind;
 use protocol::Form;
 use protocol::ListKind;
+use protocol::Place;
+use protocol::element_fields;
 use protocol::field_kind;
 use protocol::refusal;
-use slots::flat_chunk;
-use slots::flat_offset;
-use slots::place_or_null;
+use slots::NULL_LENGTH;
 use slots::put_slots;
 use slots::slots_of;
+use slots::widened8;
+use slots::widened32;
 use wire::Width;
 
-// A content by its fields, then 11 if bytes are left. Only a content that is read changes the slots, and only if its fields'
-// slots have room there, as those of every layout have.
+// A content by its fields, then 11 if bytes are left. Only a content that is read changes the slots.
 pub fn read_content(
     s: &[u8],
     key: u16,
     version: u16,
     fields: [u8; 6],
     slots: &mut [u64; 24],
-) -> Cursor
-    ensures { λ r. ⌜ r ≡ landed 8 (readContent (rowFrom fields) (now (s .entry))) ⌝ }
+) -> Stop
+    ensures { λ r. ⌜ r ≡ stop (readContent (rowFrom fields) (now (s .entry))) ⌝ }
     ensures { λ _. ⌜ now (slots .exit) ≡ contentSlots key version (rowFrom fields) (readContent (rowFrom fields) (now (s .entry))) (now (slots .entry)) ⌝ }
 {
     let mut filled = [0u64; 24];
     filled[0] = key as u64;
     filled[1] = version as u64;
-    let read = read_fields(s, fields, &mut filled[..]);
-    let next = read.next;
-    if next.refused != 0 {
-        return next;
+    let end = read_fields(s, 0, 8, fields, &mut filled[..], 2);
+    if end.refused != 0 {
+        return end;
     }
-    if next.at < s.len() {
-        return next.refuse(refusal::BYTES_LEFT);
+    if end.at < s.len() {
+        return Stop::refuse(end.at, refusal::BYTES_LEFT);
     }
-    if read.end <= 24 {
-        *slots = filled;
-    }
-    next
+    *slots = filled;
+    end
 }
 
-struct ReadFields {
-    // The cursor after the fields says whether one is refused.
-    next: Cursor,
-    // Where the slots of the fields end.
-    end: usize,
-}
-
-// The fields of a content, in wire order, put into the slots after those of key and version.
-fn read_fields(s: &[u8], fields: [u8; 6], slots: &mut [u64]) -> ReadFields
-    ensures { λ r. ⌜ r .next ≡ landed 8 (readRow (rowFrom fields) (now (s .entry)) 0) ⌝ }
-    ensures { λ r. ⌜ r .end ≡ 2 + slotsIn (rowFrom fields) ⌝ }
-    ensures { λ _. ⌜ (2 + slotsIn (rowFrom fields) ≤ length (now (slots .entry)) → Filled (rowFrom fields) (readRow (rowFrom fields) (now (s .entry)) 0) (now (slots .entry)) (now (slots .exit))) ⌝ }
+// The element at a place of the part where the elements of a list stand; the part outside the source (6). Only an element that is
+// read changes the slots.
+pub fn read_element(s: &[u8], list: Place, at: usize, kind: Element, slots: &mut [u64; 8]) -> Stop
+    ensures { λ r. ⌜ r ≡ stop (elementIn (elementRow kind) (now (s .entry)) list at) ⌝ }
+    ensures { λ _. ⌜ now (slots .exit) ≡ elementSlots (elementRow kind) (elementIn (elementRow kind) (now (s .entry)) list at) (now (slots .entry)) ⌝ }
 {
-    let mut c = Cursor::content();
-    let mut at: usize = 2;
+    if is_outside(s, list) {
+        return Stop::refuse(at, refusal::FIELD_CUT);
+    }
+    let from = list.at;
+    let end = from + list.len;
+    let mut filled = [0u64; 8];
+    let last = read_fields(
+        &s[from..end],
+        at,
+        from,
+        element_fields(kind),
+        &mut filled[..],
+        0,
+    );
+    if last.refused != 0 {
+        return last;
+    }
+    *slots = filled;
+    last
+}
+
+// The fields of a layout or of an element, in wire order, from a place on, put into the slots from a place on. `base` bytes stand
+// before the part, and the places count from the first of them.
+fn read_fields(
+    s: &[u8],
+    start: usize,
+    base: usize,
+    fields: [u8; 6],
+    slots: &mut [u64],
+    first: usize,
+) -> Stop
+    requires { ⌜ (base + length (now s) < 0x1_0000_0000_0000_0000) × (first ≤ 2) ⌝ }
+    ensures { λ r. ⌜ r ≡ stop (readRow (rowFrom fields) (now (s .entry)) start) ⌝ }
+    ensures { λ _. ⌜ Filled base (rowFrom fields) (readRow (rowFrom fields) (now (s .entry)) start) (now (slots .entry)) first (now (slots .exit)) ⌝ }
+{
+    let mut at = start;
+    let mut slot = first;
     let mut i: usize = 0;
     while i < 6 {
         let kind = field_kind(fields[i]);
-        c = read_field(s, c, kind, slots, at);
-        at += slots_of(kind);
+        let end = read_field(s, at, base, kind, slots, slot);
+        if end.refused != 0 {
+            return end;
+        }
+        at = end.at;
+        slot += slots_of(kind);
         i += 1;
     }
-    ReadFields { next: c, end: at }
+    Stop::after(at)
 }
 
-// The field at a cursor, by its kind.
-fn read_field(s: &[u8], c: Cursor, kind: FieldKind, slots: &mut [u64], at: usize) -> Cursor
-    ensures { λ r. ⌜ Into (kindSaid kind) (now (s .entry)) c at (now (slots .entry)) r (now (slots .exit)) ⌝ }
+// The field at a place, by its kind. Only a field that is read changes the slots.
+fn read_field(
+    s: &[u8],
+    at: usize,
+    base: usize,
+    kind: FieldKind,
+    slots: &mut [u64],
+    slot: usize,
+) -> Stop
+    requires { ⌜ base + length (now s) < 0x1_0000_0000_0000_0000 ⌝ }
+    ensures { λ r. ⌜ r ≡ fieldEnd (kindSaid kind) (now (s .entry)) at ⌝ }
+    ensures { λ _. ⌜ now (slots .exit) ≡ kindSlots base (kindSaid kind) (now (s .entry)) at (now (slots .entry)) slot ⌝ }
 {
     match kind {
-        FieldKind::Nothing => c,
-        FieldKind::Number(width) => read_number(s, c, width, slots, at),
-        FieldKind::Active => read_unsigned(s, c, Width::One, 1, slots, at),
-        FieldKind::Signed => read_signed(s, c, slots, at),
-        FieldKind::String { form, nullable } => read_string(s, c, form, nullable, slots, at),
+        FieldKind::Nothing => Stop::after(at),
+        FieldKind::Number(width) => read_unsigned(s, at, width, largest(width), slots, slot),
+        FieldKind::Active => read_unsigned(s, at, Width::One, 1, slots, slot),
+        FieldKind::Signed => read_signed(s, at, slots, slot),
+        FieldKind::String { form, nullable } => read_string(
+            s,
+            at,
+            base,
+            form,
+            nullable,
+            slots,
+            slot,
+        ),
         FieldKind::Specification { admits_none } => {
-            read_specification(s, c, admits_none, slots, at)
+            read_specification(s, at, admits_none, slots, slot)
         }
-        FieldKind::List(list) => read_list(s, c, list, slots, at),
-        FieldKind::Chunk => read_chunk(s, c, slots, at),
+        FieldKind::List(list) => read_list(s, at, base, list, slots, slot),
+        FieldKind::Chunk => read_chunk(s, at, base, slots, slot),
     }
-}
-
-fn read_number(s: &[u8], c: Cursor, width: Width, slots: &mut [u64], at: usize) -> Cursor
-    ensures { λ r. ⌜ IntoSlots (unsigned (widthOf width) (256 ^ widthOf width - 1)) (now (s .entry)) c at (now (slots .entry)) r (now (slots .exit)) ⌝ }
-{
-    read_unsigned(s, c, width, largest(width), slots, at)
 }
 
 // A number (6) up to the largest that is admitted (10).
 fn read_unsigned(
     s: &[u8],
-    c: Cursor,
+    at: usize,
     width: Width,
     most: u64,
     slots: &mut [u64],
-    at: usize,
-) -> Cursor
-    ensures { λ r. ⌜ IntoSlots (unsigned (widthOf width) most) (now (s .entry)) c at (now (slots .entry)) r (now (slots .exit)) ⌝ }
+    slot: usize,
+) -> Stop
+    ensures { λ r. ⌜ r ≡ stop (readField (unsigned (widthOf width) most) (now (s .entry)) at) ⌝ }
+    ensures { λ _. ⌜ ((base : ℕ) → now (slots .exit) ≡ fieldSlots base (unsigned (widthOf width) most) (readField (unsigned (widthOf width) most) (now (s .entry)) at) (now (slots .entry)) slot) ⌝ }
 {
-    let read = unsigned_field(s, c, width, most);
-    let next = read.next;
-    let values = [read.value];
-    put_slots(slots, at, &values[..]);
-    next
+    let end = unsigned_end(s, at, width, most);
+    if end.refused != 0 {
+        return end;
+    }
+    let values = [wire::number_or_zero(s, at, width)];
+    put_slots(slots, slot, &values[..]);
+    end
 }
 
-fn read_signed(s: &[u8], c: Cursor, slots: &mut [u64], at: usize) -> Cursor
-    ensures { λ r. ⌜ IntoSlots i64 (now (s .entry)) c at (now (slots .entry)) r (now (slots .exit)) ⌝ }
+// A signed number of eight bytes is its 64 bits.
+fn read_signed(s: &[u8], at: usize, slots: &mut [u64], slot: usize) -> Stop
+    ensures { λ r. ⌜ r ≡ stop (readField i64 (now (s .entry)) at) ⌝ }
+    ensures { λ _. ⌜ ((base : ℕ) → now (slots .exit) ≡ fieldSlots base i64 (readField i64 (now (s .entry)) at) (now (slots .entry)) slot) ⌝ }
 {
-    let read = i64_field(s, c);
-    let next = read.next;
-    let value = read.value;
-    let values = [wire::unsigned64(value)];
-    put_slots(slots, at, &values[..]);
-    next
+    let end = number_end(s, at, Width::Eight);
+    if end.refused != 0 {
+        return end;
+    }
+    let values = [wire::number_or_zero(s, at, Width::Eight)];
+    put_slots(slots, slot, &values[..]);
+    end
 }
 
 // T, R and B, and those that may be null.
 fn read_string(
     s: &[u8],
-    c: Cursor,
+    at: usize,
+    base: usize,
     form: Form,
     nullable: bool,
     slots: &mut [u64],
-    at: usize,
-) -> Cursor
-    ensures { λ r. ⌜ IntoSlots (K.string form nullable) (now (s .entry)) c at (now (slots .entry)) r (now (slots .exit)) ⌝ }
+    slot: usize,
+) -> Stop
+    requires { ⌜ base + length (now s) < 0x1_0000_0000_0000_0000 ⌝ }
+    ensures { λ r. ⌜ r ≡ stop (readField (K.string form nullable) (now (s .entry)) at) ⌝ }
+    ensures { λ _. ⌜ now (slots .exit) ≡ fieldSlots base (K.string form nullable) (readField (K.string form nullable) (now (s .entry)) at) (now (slots .entry)) slot ⌝ }
 {
-    if nullable {
-        return read_nullable(s, c, form, slots, at);
+    let end = string_end(s, at, form, nullable);
+    if end.refused != 0 {
+        return end;
     }
-    read_text(s, c, form, slots, at)
+    if is_null(s, at, form) {
+        let values = [0, NULL_LENGTH as u64];
+        put_slots(slots, slot, &values[..]);
+        return end;
+    }
+    let first = at + length_width(form).bytes();
+    let values = [(base + first) as u64, (end.at - first) as u64];
+    put_slots(slots, slot, &values[..]);
+    end
 }
 
-fn read_text(s: &[u8], c: Cursor, form: Form, slots: &mut [u64], at: usize) -> Cursor
-    ensures { λ r. ⌜ IntoSlots (K.string form false) (now (s .entry)) c at (now (slots .entry)) r (now (slots .exit)) ⌝ }
-{
-    let read = string_field(s, c, form);
-    let next = read.next;
-    let place = read.value;
-    let values = [place.at as u64, place.len as u64];
-    put_slots(slots, at, &values[..]);
-    next
-}
-
-fn read_nullable(s: &[u8], c: Cursor, form: Form, slots: &mut [u64], at: usize) -> Cursor
-    ensures { λ r. ⌜ IntoSlots (K.string form true) (now (s .entry)) c at (now (slots .entry)) r (now (slots .exit)) ⌝ }
-{
-    let read = nullable_field(s, c, form);
-    let next = read.next;
-    let value = read.value;
-    let place = place_or_null(value);
-    let values = [place.at as u64, place.len as u64];
-    put_slots(slots, at, &values[..]);
-    next
-}
-
+// The type, and the eight bytes after it, if it has them.
 fn read_specification(
     s: &[u8],
-    c: Cursor,
+    at: usize,
     admits_none: bool,
     slots: &mut [u64],
+    slot: usize,
+) -> Stop
+    ensures { λ r. ⌜ r ≡ stop (readField (specification «admits_none») (now (s .entry)) at) ⌝ }
+    ensures { λ _. ⌜ ((base : ℕ) → now (slots .exit) ≡ fieldSlots base (specification «admits_none») (readField (specification «admits_none») (now (s .entry)) at) (now (slots .entry)) slot) ⌝ }
+{
+    let end = specification_end(s, at, admits_none);
+    if end.refused != 0 {
+        return end;
+    }
+    let kind = wire::number_or_zero(s, at, Width::Two);
+    let first = at + 2;
+    if end.at == first {
+        let values = [kind, 0];
+        put_slots(slots, slot, &values[..]);
+        return end;
+    }
+    let values = [kind, wire::number_or_zero(s, first, Width::Eight)];
+    put_slots(slots, slot, &values[..]);
+    end
+}
+
+fn read_list(
+    s: &[u8],
     at: usize,
-) -> Cursor
-    ensures { λ r. ⌜ IntoSlots (specification «admits_none») (now (s .entry)) c at (now (slots .entry)) r (now (slots .exit)) ⌝ }
+    base: usize,
+    kind: ListKind,
+    slots: &mut [u64],
+    slot: usize,
+) -> Stop
+    requires { ⌜ base + length (now s) < 0x1_0000_0000_0000_0000 ⌝ }
+    ensures { λ r. ⌜ r ≡ stop (readField (listOf kind) (now (s .entry)) at) ⌝ }
+    ensures { λ _. ⌜ now (slots .exit) ≡ fieldSlots base (listOf kind) (readField (listOf kind) (now (s .entry)) at) (now (slots .entry)) slot ⌝ }
 {
-    let read = offset_field(s, c, admits_none);
-    let next = read.next;
-    let offset = read.value;
-    let flat = flat_offset(offset);
-    let values = [flat.kind, flat.value];
-    put_slots(slots, at, &values[..]);
-    next
+    let end = list_end(s, at, kind);
+    if end.refused != 0 {
+        return end;
+    }
+    let first = at + 4;
+    let values = [
+        count_at(s, at) as u64,
+        (base + first) as u64,
+        (end.at - first) as u64,
+    ];
+    put_slots(slots, slot, &values[..]);
+    end
 }
 
-fn read_list(s: &[u8], c: Cursor, kind: ListKind, slots: &mut [u64], at: usize) -> Cursor
-    ensures { λ r. ⌜ IntoSlots (listOf kind) (now (s .entry)) c at (now (slots .entry)) r (now (slots .exit)) ⌝ }
+fn read_chunk(s: &[u8], at: usize, base: usize, slots: &mut [u64], slot: usize) -> Stop
+    requires { ⌜ base + length (now s) < 0x1_0000_0000_0000_0000 ⌝ }
+    ensures { λ r. ⌜ r ≡ stop (readField K.chunk (now (s .entry)) at) ⌝ }
+    ensures { λ _. ⌜ now (slots .exit) ≡ fieldSlots base K.chunk (readField K.chunk (now (s .entry)) at) (now (slots .entry)) slot ⌝ }
 {
-    let read = list_field(s, c, kind);
-    let next = read.next;
-    let list = read.value;
-    let place = list.place;
-    let values = [list.count as u64, place.at as u64, place.len as u64];
-    put_slots(slots, at, &values[..]);
-    next
+    let end = chunk_end(s, at);
+    if end.refused != 0 {
+        return end;
+    }
+    let values = chunk_slots(s, at, base);
+    put_slots(slots, slot, &values[..]);
+    end
 }
 
-fn read_chunk(s: &[u8], c: Cursor, slots: &mut [u64], at: usize) -> Cursor
-    ensures { λ r. ⌜ IntoSlots K.chunk (now (s .entry)) c at (now (slots .entry)) r (now (slots .exit)) ⌝ }
+// The header's twelve numbers, then the place of the data.
+fn chunk_slots(s: &[u8], at: usize, base: usize) -> [u64; 14]
+    requires { ⌜ (at + 48 ≤ length (now s)) × (base + length (now s) < 0x1_0000_0000_0000_0000) ⌝ }
+    ensures { λ r. ⌜ r ≡ flatHeader (headerAt (now (s .entry)) at) ++ flatPlace (place (base + (at + 48)) (headerAt (now (s .entry)) at .«data_length»)) ⌝ }
 {
-    let read = chunk_field(s, c);
-    let next = read.next;
-    let chunk = read.value;
-    let header = chunk.header;
-    let data = chunk.data;
-    let values = flat_chunk(header, data);
-    put_slots(slots, at, &values[..]);
-    next
+    [
+        widened8(wire::number_or_zero(s, at, Width::One) as u8),
+        widened8(wire::number_or_zero(s, at + 1, Width::One) as u8),
+        wire::number_or_zero(s, at + 2, Width::Two),
+        wire::number_or_zero(s, at + 4, Width::Four),
+        wire::number_or_zero(s, at + 8, Width::Eight),
+        wire::number_or_zero(s, at + 16, Width::Eight),
+        wire::number_or_zero(s, at + 24, Width::Eight),
+        widened32(wire::number_or_zero(s, at + 32, Width::Four) as u32),
+        wire::number_or_zero(s, at + 36, Width::Four),
+        wire::number_or_zero(s, at + 40, Width::Four),
+        wire::number_or_zero(s, at + 44, Width::One),
+        wire::number_or_zero(s, at + 45, Width::Three),
+        (base + at + 48) as u64,
+        wire::number_or_zero(s, at + 36, Width::Four),
+    ]
 }

@@ -3,6 +3,7 @@ pub mod Widening
 pub mod Behind
 pub mod Inverse
 pub mod Padding
+pub mod Overlaid
 pub mod Fields
 pub mod RoundTrips
 pub mod Zeros

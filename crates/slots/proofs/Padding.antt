@@ -4,7 +4,7 @@ use mathlib.Core.Path.{_≡_, refl}
 use mathlib.Core.Bool.{Bool, true, false}
 use mathlib.Core.List.{List, _++_, append-assoc}
 use mathlib.Core.Option.{Option, none, some}
-use Prim.Native.Nat.{ℕ, zero, suc, _+_, _-_, _≤_}
+use Prim.Native.Nat.{ℕ, zero, suc, _+_, _-_}
 use native.Mathlib.Omega.{arith}
 use lib.ListN.{length, drop, replicate, length-append}
 use lib.Seq.{take-append-seam, drop-append-add}
@@ -25,9 +25,9 @@ drop-zeros zero m = let e : m - 0 ≡ m = omega arith in rw e
 drop-zeros (suc n) zero = let e : 0 - suc n ≡ 0 = omega arith in rw e
 drop-zeros (suc n) (suc m) = let e : suc m - suc n ≡ m - n = omega arith in rw e (drop-zeros n m)
 
-pub splice-padded : (n : ℕ) (xs ys : List ℕ) → length xs + length ys ≤ n → splice (padded n xs) (length xs) ys ≡ padded n (xs ++ ys)
+pub splice-padded : (n : ℕ) (xs ys : List ℕ) → splice (padded n xs) (length xs) ys ≡ padded n (xs ++ ys)
 unfolding splice padded
-splice-padded n xs ys h =
+splice-padded n xs ys =
     let e : n - length xs - length ys ≡ n - (length xs + length ys) = omega arith in
     rw (take-append-seam, drop-append-add, drop-zeros, length-append, e, append-assoc)
 

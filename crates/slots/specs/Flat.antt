@@ -6,7 +6,8 @@ use mathlib.Core.Option.{Option, none, some}
 use Prim.Native.Nat.{ℕ, _-_}
 use lib.Dec.{eqb}
 use lib.IntN.{ℤ}
-use lib.ListN.{length, replicate}
+use lib.ListN.{length, replicate, take}
+use Rattle.wire.specs.Buffer.{splice}
 use Rattle.wire.specs.Signed as two's
 use Rattle.protocol.specs.Fields.{Field, Fields}
 use Rattle.protocol.specs.Kinds.{Kind, unsigned, signed, string, specification, list, chunk, Row, end, _·_}
@@ -82,6 +83,10 @@ abbrev pub flatRow : Row → List (Field Place) → List ℕ
 flatRow end fs = []
 flatRow (kind · row) [] = []
 flatRow (kind · row) (f ∷ fs) = flatField kind f ++ flatRow row fs
+
+-- Values in the place of as many slots, from a place on, as far as there are slots.
+unfoldable pub overlaid : List ℕ → ℕ → List ℕ → List ℕ
+overlaid slots at values = take (length slots) (splice slots at values)
 
 -- Filled up with 0 to n slots.
 unfoldable pub padded : ℕ → List ℕ → List ℕ

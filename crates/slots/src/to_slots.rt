@@ -1,14 +1,13 @@
 // The slots of a field: how many there are, what stands in them, and how they are put.
-ghost use mathlib.Core.Bool.{true, cond};
+ghost use mathlib.Core.Bool.{true};
 ghost use mathlib.Core.List.{[], _∷_, _++_};
 ghost use mathlib.Core.Path.{_≡_};
-ghost use Prim.Native.Nat.{_+_, _≤_};
-ghost use lib.Dec.{leb};
-ghost use lib.ListN.{length, getD, drop};
-ghost use Rattle.wire.specs.Buffer.{splice};
+ghost use Prim.Native.Nat.{_≤_};
+ghost use lib.ListN.{getD, drop};
+ghost use Rattle.wire.specs.Signed.{signed};
 ghost use Rattle.protocol.specs.Frames.{nullableField};
 ghost use Rattle.protocol.specs.Layouts.{kindSaid};
-ghost use Rattle.slots.specs.Flat.{bits, flatHeader, flatOctets, flatOffset, flatPlace, notNull};
+ghost use Rattle.slots.specs.Flat.{bits, flatHeader, flatOctets, flatOffset, flatPlace, notNull, overlaid, padded};
 ghost use Rattle.slots.specs.Inverse.{SignedHeader, SignedOffset};
 ghost use Rattle.slots.specs.Unflat.{slotsFor};
 use protocol::ChunkHeader;
@@ -55,15 +54,20 @@ pub fn slot(slots: &[u64], at: usize, i: usize) -> u64
     slots[at + i]
 }
 
-// Puts values into the slots from a place on. Where there is no room for them, the slots stay as they are.
+// Puts values into the slots from a place on, as far as there are slots.
 pub fn put_slots(slots: &mut [u64], at: usize, values: &[u64])
-    ensures { λ _. ⌜ now (slots .exit) ≡ cond (leb (at + length (now (values .entry))) (length (now (slots .entry)))) (splice (now (slots .entry)) at (now (values .entry))) (now (slots .entry)) ⌝ }
+    ensures { λ _. ⌜ now (slots .exit) ≡ overlaid (now (slots .entry)) at (now (values .entry)) ⌝ }
 {
-    if !wire::has_room(slots.len(), at, values.len()) {
+    let len = slots.len();
+    if len <= at {
         return;
     }
+    let room = len - at;
     let mut i = 0;
     while i < values.len() {
+        if room <= i {
+            return;
+        }
         slots[at + i] = values[i];
         i += 1;
     }
@@ -152,4 +156,24 @@ fn bits32(x: i32) -> u64
     ensures { λ r. ⌜ r ≡ bits x ⌝ }
 {
     wire::unsigned64(x as i64)
+}
+
+// A signed number of one byte, and of four, as its 64 bits.
+pub fn widened8(x: u8) -> u64
+    ensures { λ r. ⌜ r ≡ bits (signed 1 x) ⌝ }
+{
+    bits8(wire::signed8(x))
+}
+
+pub fn widened32(x: u32) -> u64
+    ensures { λ r. ⌜ r ≡ bits (signed 4 x) ⌝ }
+{
+    bits32(wire::signed32(x))
+}
+
+// The slots of a message: its place.
+pub fn place_slots(p: Place) -> [u64; 8]
+    ensures { λ r. ⌜ r ≡ padded 8 (flatPlace p) ⌝ }
+{
+    [p.at as u64, p.len as u64, 0, 0, 0, 0, 0, 0]
 }

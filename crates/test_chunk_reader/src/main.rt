@@ -5,7 +5,9 @@ ghost use mathlib.Core.Path.{_≡_};
 ghost use Prim.Native.Nat.{_<_};
 ghost use lib.ListN.{set};
 use chunk_reader::Found;
-use libc::STDOUT_FILENO;
+use test_text::decimal;
+use test_text::line;
+use test_text::word;
 
 // A chunk of type 0 with three messages, of 5, 0 and 2 bytes.
 fn main() {
@@ -60,7 +62,7 @@ fn asked(chunk: &[u8]) {
     said(chunk_reader::nth(chunk, 2));
     said(chunk_reader::nth(chunk, 3));
     said(chunk_reader::nth(chunk, 4));
-    word(b"\n");
+    line();
 }
 
 fn said(found: Found) {
@@ -68,20 +70,10 @@ fn said(found: Found) {
         Found::Ready => word(b" ready"),
         Found::Message(place) => decimal(place.len as u64),
         Found::Done => word(b" done"),
-        Found::Refused(number) => refused(number),
+        Found::Refused(number) => {
+            word(b" refused");
+            decimal(number as u64)
+        }
     }
-}
-
-fn refused(number: u8) {
-    word(b" refused");
-    decimal(number as u64);
-}
-
-fn decimal(n: u64) {
-    word(b" ");
-    io::print_decimal(STDOUT_FILENO, n);
-}
-
-fn word(s: &[u8]) {
-    io::write_all(STDOUT_FILENO, s);
+    ;
 }

@@ -1,3 +1,2 @@
--- What the parts of a vector's line are, and what is printed of an answer.
-pub mod Digits
+-- What is printed of an answer.
 pub mod Answers

@@ -6,11 +6,10 @@ ghost use lib.ListN.{length};
 ghost use Rattle.rules.specs.Exactness.{frameLength};
 ghost use Rattle.rules.specs.Reading.{readFrame};
 ghost use Rattle.test_frames.specs.Answers.{used, needs, cutsNeeding};
-use crate::text;
 use frame_reading::FrameRead;
 
 pub fn run(name: &[u8], limit: u32, bytes: &[u8]) {
-    text::word(name);
+    test_text::word(name);
     let mut slots = [0u64; 24];
     match frame_reading::read(bytes, limit, &mut slots) {
         FrameRead::Frame => {
@@ -27,8 +26,8 @@ pub fn longer(name: &[u8], limit: u32, bytes: &[u8]) {
     let mut slots = [0u64; 24];
     match frame_reading::read(bytes, limit, &mut slots) {
         FrameRead::Frame => {
-            text::word(name);
-            text::word(b" longer");
+            test_text::word(name);
+            test_text::word(b" longer");
             accepted(bytes, slots);
         }
         FrameRead::Short { needed: _ } => {}
@@ -43,16 +42,16 @@ pub fn longer(name: &[u8], limit: u32, bytes: &[u8]) {
 fn accepted(bytes: &[u8], slots: [u64; 24])
     requires { ⌜ frameLength (now bytes) ≤ length (now bytes) ⌝ }
 {
-    text::word(b" frame");
-    text::decimal(total(bytes));
-    text::hex(slots[0], 4);
+    test_text::word(b" frame");
+    test_text::decimal(total(bytes));
+    test_text::hex(slots[0], 4);
     numbers(&slots[1..24]);
-    text::word(b"\n");
+    test_text::line();
 }
 
 fn numbers(slots: &[u64]) {
     for i in 0..used(slots) {
-        text::decimal(slots[i]);
+        test_text::decimal(slots[i]);
     }
 }
 
@@ -72,17 +71,17 @@ fn used(slots: &[u64]) -> usize
 }
 
 fn short(needed: u64) {
-    text::word(b" short");
-    text::decimal(needed);
-    text::word(b"\n");
+    test_text::word(b" short");
+    test_text::decimal(needed);
+    test_text::line();
 }
 
 fn refused(number: u8, place: usize) {
-    text::word(b" refused");
-    text::decimal(number as u64);
-    text::word(b" at");
-    text::decimal(place as u64);
-    text::word(b"\n");
+    test_text::word(b" refused");
+    test_text::decimal(number as u64);
+    test_text::word(b" at");
+    test_text::decimal(place as u64);
+    test_text::line();
 }
 
 // The length that a frame's Size gives.
@@ -100,11 +99,11 @@ fn cuts(name: &[u8], limit: u32, bytes: &[u8])
 {
     let whole = total(bytes);
     let end = whole as usize;
-    text::word(name);
-    text::word(b" cuts");
-    text::decimal(needing(limit, &bytes[0..4], 4));
-    text::decimal(needing(limit, &bytes[0..end], whole));
-    text::word(b"\n");
+    test_text::word(name);
+    test_text::word(b" cuts");
+    test_text::decimal(needing(limit, &bytes[0..4], 4));
+    test_text::decimal(needing(limit, &bytes[0..end], whole));
+    test_text::line();
 }
 
 // How many of the frame's cuts are short and need n bytes.

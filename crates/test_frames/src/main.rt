@@ -3,7 +3,6 @@
 // the code here: tests/vectors/expected.py, which also writes `stdin`.
 mod answer;
 mod line;
-mod text;
 
 fn main() {
     let mut space = [0u8; 131072];

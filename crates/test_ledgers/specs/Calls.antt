@@ -7,7 +7,7 @@ use Rattle.credit_ledger.specs.Calls as credit
 use Rattle.credit_ledger.specs.Step.{after as creditStep}
 use Rattle.publisher_ledger.specs.Calls as publisher
 use Rattle.publisher_ledger.specs.Step.{after as publisherStep}
-use Rattle.test_ledgers.specs.Numbers.{numberIn, octets}
+use Rattle.test_text.specs.Digits.{numberIn, octets}
 use Rattle.test_ledgers.specs.Words.{firstWord, afterSpace}
 use Rattle.test_ledgers.specs.declared.script.Word.{Word}
 use Rattle.test_ledgers.specs.declared.script.Word.the-variants.{Open, Grant, Close, Receive, Credit, Declare, Delete, Send, Confirm, Out, Unknown}

@@ -3,7 +3,9 @@ use credit_receiving::Received;
 use frame_reading::FrameRead;
 use ledger::Change;
 use ledger::IdState;
-use libc::STDOUT_FILENO;
+use test_text::decimal;
+use test_text::line;
+use test_text::word;
 
 pub fn change(answer: Change) {
     match answer {
@@ -32,47 +34,47 @@ fn read(reading: FrameRead) {
 
 pub fn state(of: IdState) {
     match of {
-        IdState::Closed => say(b"closed\n"),
+        IdState::Closed => closed(),
         IdState::Open(balance) => opened(balance),
     }
 }
 
-// The other lines, which tell what the calls behind them are about.
-pub fn comment(line: &[u8]) {
-    say(line);
-    say(b"\n");
+// The other lines, which tell what the calls after them are about.
+pub fn comment(words: &[u8]) {
+    word(words);
+    line();
 }
 
 fn accepted() {
-    say(b"accepted\n");
+    word(b"accepted\n");
+}
+
+fn closed() {
+    word(b"closed\n");
 }
 
 fn refused(number: u8) {
-    counted(b"refused ", number as u64);
-    say(b"\n");
+    word(b"refused");
+    decimal(number as u64);
+    line();
 }
 
 fn short(needed: u64) {
-    counted(b"refused 1 needs ", needed);
-    say(b"\n");
+    word(b"refused 1 needs");
+    decimal(needed);
+    line();
 }
 
 fn misread(number: u8, place: usize) {
-    counted(b"refused ", number as u64);
-    counted(b" at ", place as u64);
-    say(b"\n");
+    word(b"refused");
+    decimal(number as u64);
+    word(b" at");
+    decimal(place as u64);
+    line();
 }
 
 fn opened(balance: u32) {
-    counted(b"open ", balance as u64);
-    say(b"\n");
-}
-
-fn counted(words: &[u8], n: u64) {
-    say(words);
-    io::print_decimal(STDOUT_FILENO, n);
-}
-
-fn say(words: &[u8]) {
-    io::write_all(STDOUT_FILENO, words);
+    word(b"open");
+    decimal(balance as u64);
+    line();
 }

@@ -3,7 +3,7 @@ ghost use mathlib.Core.Path.{_≡_};
 ghost use lib.ListN.{take};
 ghost use Rattle.credit_ledger.specs.Calls.{received};
 ghost use Rattle.credit_ledger.specs.Step.{after};
-ghost use Rattle.test_ledgers.specs.Numbers.{octets};
+ghost use Rattle.test_text.specs.Digits.{octets};
 ghost use Rattle.test_ledgers.specs.Calls.{creditsAfter, publishersAfter};
 use crate::answers;
 use crate::script;
@@ -26,9 +26,9 @@ fn call(line: &[u8], credits: &mut [u32; 257], publishers: &mut [u32; 257])
 {
     let first = script::after_space(line);
     let second = script::after_space(first);
-    let n = script::number(first);
+    let n = test_text::number(first);
     let id = (n % 256) as u8;
-    let more = script::number(second);
+    let more = test_text::number(second);
     match script::first_word(line) {
         Word::Open => answers::change(credit_ledger::open(credits, id, (more % 65536) as u16)),
         Word::Grant => answers::change(credit_ledger::grant(credits, id, (more % 65536) as u16)),
@@ -57,7 +57,7 @@ fn receive(text: &[u8], credits: &mut [u32; 257], limit: u32)
     ensures { λ _. ⌜ now (credits .exit) ≡ after (now (credits .entry)) (received (take 4096 (octets (now (text .entry)))) limit) ⌝ }
 {
     let mut buffer = io::buffer();
-    let n = script::hex(text, &mut buffer);
+    let n = test_text::unhex(text, &mut buffer);
     let mut slots = [0u64; 24];
     answers::received(credit_receiving::receive(credits, &buffer[..n], limit, &mut slots));
 }

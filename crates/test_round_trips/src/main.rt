@@ -1,7 +1,6 @@
 // Reads every frame of the sample captures, writes it, compares the bytes and reads what was written. A line
 // for each capture: the frames that came back as they were, the bytes they take, and the bytes left behind them. In a
 // server's capture those begin with the first frame that the rules refuse, and in the last one with the frame that is cut.
-mod text;
 mod trip;
 
 fn main() {
@@ -18,7 +17,7 @@ fn main() {
 fn capture(name: &[u8]) {
     let mut space = [0u8; 131072];
     let n = io::read_full(os::open_read(name), &mut space);
-    text::word(name);
+    test_text::word(name);
     trip::walk(&space[..n]);
-    text::line();
+    test_text::line();
 }

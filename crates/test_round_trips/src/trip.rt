@@ -5,7 +5,6 @@ ghost use lib.ListN.{length};
 ghost use Rattle.protocol.specs.Frames.{fieldsOf};
 ghost use Rattle.rules.specs.Reading.{readFrame};
 ghost use Rattle.test_round_trips.specs.Trip.{alike, isFrame, lengthIf, writtenBack, back};
-use crate::text;
 use frame_writing::Written;
 use protocol::Frame;
 use typed_frames::Reading;
@@ -22,9 +21,9 @@ pub fn walk(s: &[u8]) {
         at += len;
         frames += 1;
     }
-    text::decimal(frames);
-    text::decimal(at as u64);
-    text::decimal((s.len() - at) as u64);
+    test_text::decimal(frames);
+    test_text::decimal(at as u64);
+    test_text::decimal((s.len() - at) as u64);
 }
 
 // The length of the frame at the start of s, if it comes back as it was; else 0.

@@ -1,5 +1,4 @@
 // Integers at the edges of their widths, read and written, unsigned and signed.
-use crate::text;
 use wire::Number;
 use wire::Width;
 
@@ -55,45 +54,46 @@ pub fn run() {
 }
 
 fn reads(at: usize) {
-    text::word(b"read");
-    text::decimal(at as u64);
+    test_text::word(b"read");
+    test_text::decimal(at as u64);
     reading(at, Width::One);
     reading(at, Width::Two);
     reading(at, Width::Three);
     reading(at, Width::Four);
     reading(at, Width::Eight);
-    text::line();
+    test_text::line();
 }
 
 fn writes(x: u64) {
-    text::word(b"write");
-    text::decimal(x);
+    test_text::word(b"write");
+    test_text::decimal(x);
     writing(x, Width::One);
     writing(x, Width::Two);
     writing(x, Width::Three);
     writing(x, Width::Four);
     writing(x, Width::Eight);
     signs(x);
-    text::line();
+    test_text::line();
 }
 
 fn reading(at: usize, width: Width) {
     match wire::number_at(&BYTES, at, width) {
-        Number::Value(v) => text::decimal(v),
-        Number::Cut => text::word(b" cut"),
+        Number::Value(v) => test_text::decimal(v),
+        Number::Cut => test_text::word(b" cut"),
     }
+    ;
 }
 
 // At place 1 of ten bytes, printed as two numbers, with the place behind.
 fn writing(x: u64, width: Width) {
     let mut out = [0xeeu8; 10];
     let next = wire::put_number(&mut out, 1, width, x);
-    text::decimal(next as u64);
+    test_text::decimal(next as u64);
     shown(&out);
 }
 
 fn shown(out: &[u8]) {
-    text::word(b" ");
+    test_text::word(b" ");
     for i in 0..out.len() {
         byte(out[i]);
     }
@@ -107,19 +107,19 @@ fn byte(b: u8) {
 fn signs(x: u64) {
     let a = wire::signed8((x % 256) as u8);
     sign(a < 0);
-    text::decimal(wire::unsigned8(a) as u64);
+    test_text::decimal(wire::unsigned8(a) as u64);
     let b = wire::signed32((x % 4294967296) as u32);
     sign(b < 0);
-    text::decimal(wire::unsigned32(b) as u64);
+    test_text::decimal(wire::unsigned32(b) as u64);
     let c = wire::signed64(x);
     sign(c < 0);
-    text::decimal(wire::unsigned64(c));
+    test_text::decimal(wire::unsigned64(c));
 }
 
 fn sign(below: bool) {
     if below {
-        text::word(b" -");
+        test_text::word(b" -");
     } else {
-        text::word(b" +");
+        test_text::word(b" +");
     }
 }

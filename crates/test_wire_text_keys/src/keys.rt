@@ -3,16 +3,15 @@ ghost use mathlib.Core.Path.{_≡_};
 ghost use Prim.Native.Nat.{_≤_};
 ghost use Rattle.protocol.specs.Decision.{decide};
 ghost use Rattle.test_wire_text_keys.specs.Keys.{refusalOf, refused, refusedVersions, refusedPairs};
-use crate::text;
 use protocol::Decided;
 use protocol::refusal;
 
 pub fn run() {
     listed();
-    text::word(b"keys");
-    text::decimal(refusals(refusal::UNKNOWN_KEY));
-    text::decimal(refusals(refusal::UNKNOWN_VERSION));
-    text::line();
+    test_text::word(b"keys");
+    test_text::decimal(refusals(refusal::UNKNOWN_KEY));
+    test_text::decimal(refusals(refusal::UNKNOWN_VERSION));
+    test_text::line();
 }
 
 fn listed() {
@@ -28,10 +27,10 @@ fn listed() {
 
 fn show(key: u16, version: u16) {
     if answer(key, version) == 0 {
-        text::word(b"key");
-        text::hex(key as u64, 4);
-        text::decimal(version as u64);
-        text::line();
+        test_text::word(b"key");
+        test_text::hex(key as u64, 4);
+        test_text::decimal(version as u64);
+        test_text::line();
     }
 }
 

@@ -3,7 +3,6 @@
 // int.to_bytes for integers, and a list of keys that was written down from the protocol reference for the key decision.
 mod integers;
 mod keys;
-mod text;
 mod utf8;
 
 fn main() {

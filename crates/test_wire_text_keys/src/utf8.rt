@@ -2,7 +2,6 @@
 ghost use mathlib.Core.Path.{_≡_};
 ghost use Prim.Native.Nat.{_≤_};
 ghost use Rattle.test_wire_text_keys.specs.Texts.{edge, passes, accepted};
-use crate::text;
 
 const EDGES: [u8; 10] = [0x00, 0x7f, 0x80, 0x8f, 0x90, 0x9f, 0xa0, 0xbf, 0xc0, 0xff];
 
@@ -20,21 +19,21 @@ pub fn run() {
 }
 
 fn of_lead(lead: u8) {
-    text::word(b"utf8");
-    text::hex(lead as u64, 2);
+    test_text::word(b"utf8");
+    test_text::hex(lead as u64, 2);
     passing(lead, 1, 1);
     passing(lead, 2, 10);
     passing(lead, 3, 100);
     passing(lead, 4, 1000);
-    text::line();
+    test_text::line();
 }
 
 fn passing(lead: u8, len: usize, texts: usize)
     requires { ⌜ (len ≤ 4) × (texts ≤ 1000) ⌝ }
 {
     let a = tally(lead, len, texts);
-    text::decimal(a.count);
-    text::decimal(a.sum % 65536);
+    test_text::decimal(a.count);
+    test_text::decimal(a.sum % 65536);
 }
 
 // How many of the texts of len bytes numbered below `texts` pass, and the sum of their numbers.

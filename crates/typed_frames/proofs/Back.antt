@@ -13,6 +13,7 @@ use Rattle.wire.proofs.TwosComplement.{twos-complement}
 use Rattle.wire.proofs.Widths.{integers}
 use Rattle.wire.specs.Integers.{Bytes}
 use Rattle.wire.specs.Signed as two's
+use Rattle.protocol.specs.Decision.{Decision}
 use Rattle.protocol.specs.Fields.{Field, Fields, number, valueIn, EndsBy, PlacesEndBy}
 use Rattle.protocol.specs.Fields as F
 use Rattle.protocol.specs.Kinds.{Kind, unsigned, signed, string, specification, list, chunk, Row, end, _·_}
@@ -33,7 +34,7 @@ use Rattle.slots.proofs.Inverse.{octets-back, offset-back, field-behind}
 use Rattle.frame_reading.specs.Answer.{told}
 use Rattle.frame_reading.specs.declared.reading.FrameRead.the-variants.{Frame}
 use Rattle.frame_reading.proofs.Told.{frame-told, slots-told}
-use Rattle.slot_frames.specs.Typed.{cut, Listed, typedHeader, typedField, typedRow, typedFields}
+use Rattle.typed_fields.specs.Typed.{cut, typedHeader, typedField, typedRow, typedOf, typedFields}
 
 -- ---- A chunk's header
 
@@ -119,21 +120,18 @@ unfolding typedFields flatFrame padded
 frame-back s limit f bytes e =
     let v = sound s limit f bytes e in
     let below : frameLength s < nullLength = omega (arith, integers 4 .range s 0 bytes) in
-    ap (λ (c : List (Field Place)). record { key = f .key; version = f .version; content = c })
+    ap (λ (d : Decision). typedOf d (flatFrame f)) (v .valid .listed)
+    ∙ ap (λ (c : List (Field Place)). record { key = f .key; version = f .version; content = c })
     (row-back s (frameLength s) below (rowOf (f .key) (f .version)) (f .content) (replicate (24 - length (f .key ∷ f .version ∷ flatRow (rowOf (f .key) (f .version)) (f .content))) 0)
     (row-valid s (frameLength s) below (rowOf (f .key) (f .version)) (f .content) (plain-table (f .key) (f .version)) (v .valid .content) (inside s limit f e)))
 
--- What the slots of a frame that was read say: its key and version are listed, and the typed frame that they give is it.
+-- The typed frame of the slots of a frame that was read is that frame.
 module _ (s : List ℕ) (limit : ℕ) (old new : List ℕ) (bytes : Bytes s) (t : Frame ≡ told (readFrame s limit)) (h : new ≡ slotsAfter old (readFrame s limit)) where
   read : (f : Fields Place) × (frame f ≡ readFrame s limit)
   read = frame-told (readFrame s limit) t
 
   slots : new ≡ flatFrame (read .0)
   slots = slots-told (read .0) (readFrame s limit) old new (read .1) h
-
-  pub read-listed : Listed (getD new 0 0) (getD new 1 0)
-  unfolding flatFrame padded
-  read-listed = rw slots (sound s limit (read .0) bytes (sym (read .1)) .valid .listed)
 
   pub read-typed : (g : Fields Place) → g ≡ typedFields (getD new 0 0) (getD new 1 0) new → frame g ≡ readFrame s limit
   unfolding flatFrame padded

@@ -3,14 +3,14 @@
 use mathlib.Core.Path.{_≡_, refl, _∙_, sym, ap}
 use mathlib.Core.Bool.{Bool, true, false, false≢true, _&&_}
 use mathlib.Core.List.{List, [], _∷_, _++_}
-use mathlib.Core.Logic.{_⊎_, inl, inr, ⊎-elim}
-use mathlib.Core.Option.{Option, none, some}
+use mathlib.Core.Logic.{inl, inr}
+use mathlib.Core.Option.{none, some}
 use Prim.Native.Nat.{ℕ, zero, suc, _+_, _-_, _*_, _/_, _%_, _<_, _≤_}
 use native.Mathlib.Omega.{arith}
 use lib.Dec.{leb, ltb}
 use lib.ListN.{length, length-append}
 use borrow.Author.Tests.{lt-ltb, le-ltb, leb-true, leb-false, ltb-true, ltb-false}
-use Rattle.unicode.specs.Utf8.{Range, _‥_, within, tail, first, next, following, whole, utf8}
+use Rattle.unicode.specs.Utf8.{Range, _‥_, within, tail, first, following, whole, utf8}
 use Rattle.unicode.specs.Unicode.{Scalar, character, encoded, Scalars, Unicode}
 use Rattle.unicode.proofs.Following.{inside, after-e0, after-ed, after-f0, after-f4, one-byte, two-bytes, three-bytes, three-bytes-high, four-bytes, no-first-low, no-first-high}
 

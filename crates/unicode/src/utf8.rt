@@ -1,7 +1,5 @@
 // UTF-8 as RFC 3629 has it: no overlong form, no surrogate, nothing above 10FFFF.
 ghost use mathlib.Core.Path.{_≡_};
-ghost use mathlib.Core.List.{[]};
-ghost use mathlib.Core.Option.{some};
 ghost use Prim.Native.Nat.{_+_, _≤_};
 ghost use lib.ListN.{length, take, drop};
 ghost use Rattle.unicode.specs.Utf8.{utf8, ascii, first, next, expects};

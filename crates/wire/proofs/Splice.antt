@@ -1,8 +1,8 @@
 -- Bytes put into a buffer one after another: a splice of the first and then of the second is one of both.
 -- Assumes nothing.
-use mathlib.Core.Path.{_≡_, refl, _∙_, sym, ap}
+use mathlib.Core.Path.{_≡_, _∙_, sym, ap}
 use mathlib.Core.List.{List, [], _∷_, _++_, append-assoc}
-use Prim.Native.Nat.{ℕ, zero, suc, _+_, _-_, _/_, _%_, _<_, _^_, _≤_}
+use Prim.Native.Nat.{ℕ, suc, _+_, _-_, _/_, _%_, _<_, _^_, _≤_}
 use native.Mathlib.Nat.{pow-suc, pow-zero, div-one, div-div-eq-div-mul}
 use native.Mathlib.Numerals.{add-one}
 use native.Mathlib.Omega.{arith}
@@ -25,10 +25,11 @@ length-splice s b at h =
 drop-past : (p q : List ℕ) (n m : ℕ) → length p ≡ n → drop (n + m) (p ++ q) ≡ drop m q
 drop-past p q n m k = rw (← k) (drop-append-add p q m)
 
-pub splice-splice : (s a b : List ℕ) (at : ℕ) → at + length a + length b ≤ length s → splice (splice s at a) (at + length a) b ≡ splice s at (a ++ b)
+-- The second need not end where s does.
+pub splice-behind : (s a b : List ℕ) (at : ℕ) → at ≤ length s → splice (splice s at a) (at + length a) b ≡ splice s at (a ++ b)
 unfolding splice
-splice-splice s a b at h =
-    let k : length (take at s ++ a) ≡ at + length a = simp length-append (omega (arith, length-take-le at s (omega arith))) in
+splice-behind s a b at h =
+    let k : length (take at s ++ a) ≡ at + length a = simp length-append (omega (arith, length-take-le at s h)) in
     let e : at + length (a ++ b) ≡ at + length a + length b = omega (arith, length-append a b) in
     rw (
       ← append-assoc (take at s) a (drop (at + length a) s),
@@ -38,6 +39,9 @@ splice-splice s a b at h =
       e,
     )
     (simp append-assoc)
+
+pub splice-splice : (s a b : List ℕ) (at : ℕ) → at + length a + length b ≤ length s → splice (splice s at a) (at + length a) b ≡ splice s at (a ++ b)
+splice-splice s a b at h = splice-behind s a b at (omega arith)
 
 -- One byte in front of what is put.
 splice-front : (s b : List ℕ) (at y : ℕ) → at + 1 + length b ≤ length s → set (splice s (at + 1) b) at y ≡ splice s at (y ∷ b)
@@ -54,7 +58,7 @@ unfolding splice
 set-splice s i y h = rw add-one (set-split s i y h)
 
 -- One byte behind what is put.
-splice-back : (s b : List ℕ) (at y : ℕ) → at + length b < length s → set (splice s at b) (at + length b) y ≡ splice s at (b ++ (y ∷ []))
+pub splice-back : (s b : List ℕ) (at y : ℕ) → at + length b < length s → set (splice s at b) (at + length b) y ≡ splice s at (b ++ (y ∷ []))
 splice-back s b at y h =
     let k : at + length b ≤ length s = omega arith in
     let l : at + length b < length (splice s at b) = rw (length-splice s b at k) h in

@@ -103,6 +103,10 @@ module _ (n : ℕ) (s : List ℕ) (at : ℕ) where
   unfolding numberOrZero
   or-zero h = rw (le-leb _ _ h)
 
+  pub or-zero-cut : length s < at + n → numberOrZero n s at ≡ 0
+  unfolding numberOrZero
+  or-zero-cut h = rw (lt-leb _ _ h)
+
   -- What the answer tells.
   pub is-there : (v : ℕ) → Value v ≡ numberAt n s at → (at + n ≤ length s) × (v ≡ bigEndian n s at)
   is-there v e = by (leb (at + n) (length s)) refl

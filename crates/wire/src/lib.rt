@@ -1,5 +1,5 @@
 // The primitives of the wire: big-endian integers, signed integers, and bytes put into a lent buffer.
-// No function here has a `requires`: each answers for any slice, any place and any number.
+// No public function here has a `requires`: each answers for any slice, any place and any number.
 mod buffer;
 mod integers;
 mod room;

@@ -1,4 +1,4 @@
--- A number of eight bytes is two of four, one behind the other.
+-- A number of eight bytes is two of four, one after the other.
 use native.Mathlib.Omega.{arith}
 use borrow.Author.Needs.{needs}
 use Rattle.wire.proofs.Widths.{join}

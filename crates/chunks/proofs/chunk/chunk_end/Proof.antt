@@ -1,7 +1,7 @@
 -- By whether the header is there.
 use mathlib.Core.Path.{_∙_, sym, ap}
-use native.Mathlib.Omega.{arith}
-use Rattle.chunks.specs.Stops.{stop}
+use Rattle.wire.proofs.Within.{room, no-room}
+use Rattle.fields.specs.Stops.{stop}
 use Rattle.chunks.proofs.Chunks.{header-cut, header-there}
 use borrow.Author.Needs.{needs}
 use Rattle.chunks.proofs.chunk.chunk_end.Statement.{statement}
@@ -11,8 +11,8 @@ pub chunk-end-spec : {M : Type 1} → statement M
 chunk-end-spec =
     tie.close
     (tie.spec
-    (λ c. header-cut _ _ (omega arith))
-    (λ c. search needs)
-    (λ c. header-cut _ _ (omega arith))
     (λ c κs. search needs)
-    (λ c. c .data-end .ensures ∙ sym (ap stop (header-there (c .before .before .before .before .args .s .now) (c .before .before .before .before .args .at) (omega arith)))))
+    (λ c κs. search needs)
+    (λ c. c .refuse .ensures ∙ header-cut _ _ (no-room _ _ _ (c .before .before .has-room .ensures) (c .before .if1 .taken)))
+    (λ c κs. room _ _ _ (c .before .has-room .ensures) (c .if1 .left))
+    (λ c. c .data-end .ensures ∙ sym (ap stop (header-there _ _ (room _ _ _ (c .before .before .has-room .ensures) (c .before .if1 .left))))))

@@ -1,5 +1,4 @@
 -- Two numbers whose widths are the content's length.
-use mathlib.Core.Bool.{true}
 use mathlib.Core.Path.{_≡_, refl, sym}
 use mathlib.Core.List.{List, [], _∷_}
 use Prim.Native.Nat.{ℕ}
@@ -9,13 +8,14 @@ use Rattle.wire.specs.Integers.{Bytes, bigEndian}
 use Rattle.protocol.specs.Table.{table, rowIn}
 use Rattle.rules.specs.Reading.{readLayout}
 use Rattle.slots.specs.Flat.{padded}
-use Rattle.fast_reading.specs.Answer.{ReadsAs}
+use Rattle.fast_reading.specs.Answer.{Answers}
+use Rattle.fast_reading.specs.declared.reading.Fast.the-variants.{Frame}
 use Rattle.fast_reading.proofs.Rows.{reads, done, link, unsigned-read}
 use borrow.Author.Needs.{needs}
 use Rattle.fast_reading.proofs.consuming.credit.Statement.{statement}
 use Rattle.fast_reading.proofs.consuming.credit.Tie as tie
 
-row : (s old : List ℕ) (a n : ℕ) → Bytes s → length s ≡ 3 → a ≡ bigEndian 1 s 0 → n ≡ bigEndian 2 s 1 → ReadsAs (readLayout 0x0009 1 s) old true (padded 24 (0x0009 ∷ 1 ∷ a ∷ n ∷ []))
+row : (s old : List ℕ) (a n : ℕ) → Bytes s → length s ≡ 3 → a ≡ bigEndian 1 s 0 → n ≡ bigEndian 2 s 1 → Answers (readLayout 0x0009 1 s) old Frame (padded 24 (0x0009 ∷ 1 ∷ a ∷ n ∷ []))
 unfolding table rowIn
 row s old a n b l i j =
     reads 0x0009 1 old _ refl

@@ -1,4 +1,4 @@
--- The last two are stored behind the others.
+-- The last two are stored after the others.
 use mathlib.Core.Path.{ap}
 use mathlib.Core.List.{List}
 use Prim.Native.Nat.{ℕ}

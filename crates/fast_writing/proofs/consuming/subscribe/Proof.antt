@@ -1,16 +1,14 @@
 -- The checks are those of the row, and its pieces are put one behind another.
-use borrow.Author.Tests.{not-false}
-use Rattle.fields.proofs.Steps.{put-next}
 use mathlib.Core.Path.{_∙_}
 use native.Mathlib.Omega.{arith}
 use lib.ListN.{getD}
-use Rattle.protocol.specs.Kinds.{elementRow}
+use borrow.Author.Tests.{not-false}
+use Rattle.wire.proofs.Within.{room}
+use Rattle.fields.proofs.Steps.{put-next}
 use Rattle.protocol.specs.declared.kind.Element.the-variants.{Property}
-use Rattle.rules.specs.Reading.{readRow}
 use Rattle.fields.proofs.StringFields.{passes}
 use Rattle.fast_writing.proofs.Chain.{frame-put, part-next, text-next, eight-next}
-use Rattle.fast_writing.proofs.Encoded.{all-read, subscribe-row}
-use Rattle.wire.proofs.Within.{room}
+use Rattle.fast_writing.proofs.Encoded.{plain-written, subscribe-row}
 use borrow.Author.Needs.{needs}
 use Rattle.fast_writing.proofs.consuming.subscribe.Statement.{statement}
 use Rattle.fast_writing.proofs.consuming.subscribe.Tie as tie
@@ -38,31 +36,22 @@ subscribe-spec =
     (λ c. search needs)
     (λ c κs. search needs)
     (λ c. search needs)
-    (λ c. search needs)
     (λ c κs. search needs)
-    (λ c. search needs)
-    (λ c. search needs)
-    (λ c.
-    let there = c .before in
-    let part = there .before in
-    let start = part .before .before .before .before .before .before .before .before .before .before .before .before .before .before .before .before .before .before .before .before .before .before .before in
-    omega (arith, part .is-part .ensures .0 (not-false _ (there .if7 .left)) .there, start .good .1 .0 .0))
-    (λ c. search needs)
-    (λ c. search needs)
-    (λ c.
-    let there = c .before in
-    let part = there .before in
-    omega (arith, part .is-part .ensures .0 (not-false _ (there .if7 .left)) .there))
     (λ c κs. search needs)
     (λ c. search needs)
     (λ c.
-    let named = c .before .before .before .before .before .before .before .before .before in
-    omega (arith, passes _ _ _ _ _ (named .before .is-string .ensures) (named .if4 .left) .short))
+    let named = c .before .before .before .before .before in
+    let t = passes _ _ _ _ _ (named .before .is-string .ensures) (named .if4 .left) in
+    omega (arith, t .short))
     (λ c.
-    let there = c .before .before .before .before in
-    let part = there .before in
-    let named = part .before .before .before .before in
-    omega (arith, passes _ _ _ _ _ (named .before .is-string .ensures) (named .if4 .left) .short, part .is-part .ensures .0 (not-false _ (there .if7 .left)) .short))
+    let listed = c in
+    let list = listed .before in
+    let kind = list .before in
+    let named = kind .before .before .before in
+    let start = named .before .before .before .before .before .before .before .before .before .before .before .before .before .before .before .before .before .before .before in
+    let t = passes _ _ _ _ _ (named .before .is-string .ensures) (named .if4 .left) in
+    let w = plain-written _ Property (start .args .src .now) (getD (start .args .slots .now) 9 0) (getD (start .args .slots .now) 10 0) (getD (start .args .slots .now) 11 0) _ (kind .plain-list .ensures) (list .list-refusal .ensures) (listed .if6 .left) in
+    omega (arith, t .short, w .inside, start .good .1 .0 .0))
     (λ c κs. search needs)
     (λ c. search needs)
     (λ c κs. search needs)
@@ -77,7 +66,7 @@ subscribe-spec =
     (λ c.
     let roomy = c .before .before .before .before .before .before .before .before .before .before .before .before .before .before .before .before .before .before .before .before .before .before .before .before .before .before .before .before .before .before .before .before .before .before .before .before in
     let limit = roomy .before in
-    omega (arith, limit .fits2 .ensures .0 (not-false _ (roomy .if10 .left)) .bound))
+    omega (arith, limit .fits2 .ensures .0 (not-false _ (roomy .if7 .left)) .bound))
     (λ c.
     let o9 = c .before in
     let o8 = o9 .before .before .before .before in
@@ -101,21 +90,18 @@ subscribe-spec =
     let head = first .before .before .before .before in
     let roomy = head .before .before in
     let limit = roomy .before in
-    let ended = limit .before in
-    let properties = ended .before in
-    let few = properties .before .before in
-    let there = few .before in
-    let part = there .before in
-    let count = part .before in
-    let credit = count .before in
+    let listed = limit .before in
+    let list = listed .before in
+    let kind = list .before in
+    let credit = kind .before in
     let named = credit .before .before in
     let short = named .before .before in
     let known = short .before .before in
     let from = known .before .before in
     let start = from .before .before .before .before .before .before .before .before .before .before .before .before .before in
     let t = passes _ _ _ _ _ (named .before .is-string .ensures) (named .if4 .left) in
-    let p = part .is-part .ensures .0 (not-false _ (there .if7 .left)) in
+    let w = plain-written _ Property (start .args .src .now) (getD (start .args .slots .now) 9 0) (getD (start .args .slots .now) 10 0) (getD (start .args .slots .now) 11 0) _ (kind .plain-list .ensures) (list .list-refusal .ensures) (listed .if6 .left) in
     let src = start .args .src .now in
     let s = start .args .slots .now in
-    frame-put 0x0007 _ _ (start .args .out .now) _ _ _ _ (subscribe-row s src t p (room _ _ _ (known .before .is-number .ensures) (known .if2 .left)) (room _ _ _ (short .before .is-number2 .ensures) (short .if3 .left)) (from .if1 .left) (offset .put-eight .ensures .1) (room _ _ _ (credit .before .is-number3 .ensures) (credit .if5 .left)) (count .if6 .left) (all-read (readRow (elementRow Property)) (getD s 9 0) src (getD s 10 0) (getD s 11 0) _ (properties .properties-end .ensures) (ended .if9 .left) (few .if8 .left))) (limit .fits2 .ensures .0 (not-false _ (roomy .if10 .left)))
-    (part-next src _ _ _ _ _ _ _ (p .there) (put-next _ _ _ _ _ _ (put-next _ _ _ _ _ _ (eight-next _ _ _ _ _ _ (put-next _ _ _ _ _ _ (text-next src _ _ _ _ _ _ _ (t .inside) (put-next _ _ _ _ _ _ (put-next _ _ _ _ _ _ (head .put-head .ensures) (first .put-number .ensures)) (second .put-number2 .ensures)) (text .put-text .ensures)) (type .put-number3 .ensures)) (offset .put-eight .ensures .0)) (granted .put-number4 .ensures)) (number .put-number5 .ensures)) (last .put-bytes .ensures))))
+    frame-put 0x0007 _ _ (start .args .out .now) _ _ _ _ (subscribe-row s src t w (room _ _ _ (known .before .is-number .ensures) (known .if2 .left)) (room _ _ _ (short .before .is-number2 .ensures) (short .if3 .left)) (from .if1 .left) (offset .put-eight .ensures .1) (room _ _ _ (credit .before .is-number3 .ensures) (credit .if5 .left))) (limit .fits2 .ensures .0 (not-false _ (roomy .if7 .left)))
+    (part-next src _ _ _ _ _ _ _ (w .inside) (put-next _ _ _ _ _ _ (put-next _ _ _ _ _ _ (eight-next _ _ _ _ _ _ (put-next _ _ _ _ _ _ (text-next src _ _ _ _ _ _ _ (t .inside) (put-next _ _ _ _ _ _ (put-next _ _ _ _ _ _ (head .put-head .ensures) (first .put-number .ensures)) (second .put-number2 .ensures)) (text .put-text .ensures)) (type .put-number3 .ensures)) (offset .put-eight .ensures .0)) (granted .put-number4 .ensures)) (number .put-number5 .ensures)) (last .put-bytes .ensures))))

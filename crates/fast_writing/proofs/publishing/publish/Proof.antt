@@ -1,14 +1,12 @@
 -- The checks are those of the row, and its pieces are put one behind another.
-use borrow.Author.Tests.{not-false}
-use Rattle.fields.proofs.Steps.{put-next}
 use native.Mathlib.Omega.{arith}
 use lib.ListN.{getD}
-use Rattle.protocol.specs.Kinds.{elementRow}
-use Rattle.protocol.specs.declared.kind.Element.the-variants.{Message}
-use Rattle.rules.specs.Reading.{readRow}
-use Rattle.fast_writing.proofs.Chain.{frame-put, part-next}
-use Rattle.fast_writing.proofs.Encoded.{all-read, publish-row}
+use borrow.Author.Tests.{not-false}
 use Rattle.wire.proofs.Within.{room}
+use Rattle.fields.proofs.Steps.{put-next}
+use Rattle.protocol.specs.declared.kind.Element.the-variants.{Message}
+use Rattle.fast_writing.proofs.Chain.{frame-put, part-next}
+use Rattle.fast_writing.proofs.Encoded.{plain-written, publish-row}
 use borrow.Author.Needs.{needs}
 use Rattle.fast_writing.proofs.publishing.publish.Statement.{statement}
 use Rattle.fast_writing.proofs.publishing.publish.Tie as tie
@@ -23,26 +21,16 @@ publish-spec =
     (λ c. search needs)
     (λ c κs. search needs)
     (λ c. search needs)
-    (λ c. search needs)
     (λ c κs. search needs)
-    (λ c. search needs)
-    (λ c. search needs)
-    (λ c.
-    let there = c .before in
-    let part = there .before in
-    omega (arith, part .is-part .ensures .0 (not-false _ (there .if3 .left)) .there))
-    (λ c. search needs)
-    (λ c. search needs)
-    (λ c.
-    let there = c .before in
-    let part = there .before in
-    omega (arith, part .is-part .ensures .0 (not-false _ (there .if3 .left)) .there))
     (λ c κs. search needs)
     (λ c. search needs)
     (λ c.
-    let there = c .before .before .before .before in
-    let part = there .before in
-    omega (arith, part .is-part .ensures .0 (not-false _ (there .if3 .left)) .short))
+    let listed = c in
+    let list = listed .before in
+    let kind = list .before in
+    let start = kind .before .before .before .before .before .before .before .before .before in
+    let w = plain-written _ Message (start .args .src .now) (getD (start .args .slots .now) 3 0) (getD (start .args .slots .now) 4 0) (getD (start .args .slots .now) 5 0) _ (kind .plain-list .ensures) (list .list-refusal .ensures) (listed .if2 .left) in
+    omega (arith, w .inside, start .good .1 .0 .0))
     (λ c κs. search needs)
     (λ c. search needs)
     (λ c κs. search needs)
@@ -52,7 +40,7 @@ publish-spec =
     (λ c.
     let roomy = c .before .before .before .before .before .before .before .before .before .before .before .before .before .before .before .before in
     let limit = roomy .before in
-    omega (arith, limit .fits2 .ensures .0 (not-false _ (roomy .if6 .left)) .bound))
+    omega (arith, limit .fits2 .ensures .0 (not-false _ (roomy .if3 .left)) .bound))
     (λ c. search needs)
     (λ c.
     let last = c .before .before in
@@ -61,16 +49,12 @@ publish-spec =
     let head = first .before .before .before .before in
     let roomy = head .before .before in
     let limit = roomy .before in
-    let ended = limit .before in
-    let messages = ended .before in
-    let few = messages .before .before in
-    let there = few .before in
-    let part = there .before in
-    let count = part .before in
-    let short = count .before in
+    let listed = limit .before in
+    let list = listed .before in
+    let kind = list .before in
+    let short = kind .before in
     let start = short .before .before .before .before .before .before .before .before in
-    let p = part .is-part .ensures .0 (not-false _ (there .if3 .left)) in
+    let w = plain-written _ Message (start .args .src .now) (getD (start .args .slots .now) 3 0) (getD (start .args .slots .now) 4 0) (getD (start .args .slots .now) 5 0) _ (kind .plain-list .ensures) (list .list-refusal .ensures) (listed .if2 .left) in
     let src = start .args .src .now in
-    let s = start .args .slots .now in
-    frame-put 0x0002 _ _ (start .args .out .now) _ _ _ _ (publish-row s src p (room _ _ _ (short .before .is-number .ensures) (short .if1 .left)) (count .if2 .left) (all-read (readRow (elementRow Message)) (getD s 3 0) src (getD s 4 0) (getD s 5 0) _ (messages .messages-end .ensures) (ended .if5 .left) (few .if4 .left))) (limit .fits2 .ensures .0 (not-false _ (roomy .if6 .left)))
-    (part-next src _ _ _ _ _ _ _ (p .there) (put-next _ _ _ _ _ _ (put-next _ _ _ _ _ _ (head .put-head .ensures) (first .put-number .ensures)) (second .put-number2 .ensures)) (last .put-bytes .ensures))))
+    frame-put 0x0002 _ _ (start .args .out .now) _ _ _ _ (publish-row (start .args .slots .now) src (room _ _ _ (short .before .is-number .ensures) (short .if1 .left)) w) (limit .fits2 .ensures .0 (not-false _ (roomy .if3 .left)))
+    (part-next src _ _ _ _ _ _ _ (w .inside) (put-next _ _ _ _ _ _ (put-next _ _ _ _ _ _ (head .put-head .ensures) (first .put-number .ensures)) (second .put-number2 .ensures)) (last .put-bytes .ensures))))

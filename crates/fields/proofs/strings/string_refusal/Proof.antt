@@ -1,20 +1,14 @@
--- Each return is one check of the definition; the last is the body's.
-use mathlib.Core.Path.{_∙_, sym}
+-- The length's refusal is the byte string's, and after it the body's is.
+use Rattle.fields.proofs.StringFields.{length-refused, length-passed}
 use borrow.Author.Needs.{needs}
-use borrow.Author.Tests.{le-leb, lt-leb}
-use Rattle.rules.specs.Writing.{writeString}
-use Rattle.fields.proofs.StringFields.{negative, not-negative}
 use Rattle.fields.proofs.strings.string_refusal.Statement.{statement}
 use Rattle.fields.proofs.strings.string_refusal.Tie as tie
 
 pub string-refusal-spec : {M : Type 1} → statement M
-unfolding writeString
 string-refusal-spec =
     tie.close
     (tie.spec
     (λ c κs. search needs)
-    (λ c. let a = c .before .before .before .args in rw (le-leb _ _ (negative (a .form) _ (a .len) (c .before .largest .ensures) (c .if1 .taken))))
-    (λ c κs. search needs)
-    (λ c. let l = c .before .before in let a = l .before .before .before .args in rw (lt-leb _ _ (not-negative (a .form) _ (a .len) (l .before .largest .ensures) (l .if1 .left)), ← c .before .too-long .ensures, c .if2 .taken))
-    (λ c κs. let l = c .before .before in let a = l .before .before .before .args in (not-negative (a .form) _ (a .len) (l .before .largest .ensures) (l .if1 .left), sym (c .before .too-long .ensures) ∙ c .if2 .left))
+    (λ c. let a = c .before .before .before .args in length-refused (a .form) (a .s .now) (a .at) (a .len) _ (c .before .length-refusal .ensures) (c .if1 .taken))
+    (λ c κs. let a = c .before .before .before .args in length-passed (a .form) (a .s .now) (a .at) (a .len) _ (c .before .length-refusal .ensures) (c .if1 .left))
     (λ c. c .body-refusal .ensures))

@@ -1,5 +1,4 @@
 -- A number of so many bytes is below the power of so many.
-use mathlib.Core.Path.{ap}
 use native.Mathlib.Omega.{arith}
 use borrow.Author.Needs.{needs}
 use Rattle.wire.specs.Integers.{Bytes}

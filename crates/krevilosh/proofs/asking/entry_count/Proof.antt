@@ -1,6 +1,6 @@
 -- By the test.
+use native.Mathlib.Omega.{arith}
 use borrow.Author.Tests.{lt-ltb, le-ltb}
-use Rattle.krevilosh.proofs.Questions.{fits-16}
 use Rattle.krevilosh.proofs.asking.entry_count.Statement.{statement}
 use Rattle.krevilosh.proofs.asking.entry_count.Tie as tie
 
@@ -9,5 +9,5 @@ entry-count-spec =
     tie.close
     (tie.spec
     (λ c. rw (lt-ltb 0xffff (c .before .args .entries) (c .if1 .taken)))
-    (λ c. record { fits = fits-16 (c .before .args .entries) (c .if1 .left) })
+    (λ c. record { fits = omega (arith, c .if1 .left) })
     (λ c. rw (le-ltb 0xffff (c .before .args .entries) (c .if1 .left))))

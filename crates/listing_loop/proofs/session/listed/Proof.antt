@@ -24,4 +24,4 @@ listed-spec =
     let taken = c .before .before .taken in
     let list = c .before .before .before .before .before .list in
     let rest = c .before .before .before .before .before .before .before .rest in
-    (not-listing _ (list .result .state) (stage .ensures), λ h on st. listed-stands h _ _ _ st on (list .result) _ _ _ _ _ (rest .ensures _ (st .input)) refl (list .ensures .0) (list .ensures .1) (taken .ensures _ _ (st .input)) (omega arith) (stage .ensures))))
+    (not-listing _ (list .result .state) (stage .ensures), λ h on st. listed-stands h _ _ _ st on (list .result) _ _ _ _ _ (rest .ensures _ (st .input)) refl (list .ensures .0) (list .ensures .1) (taken .ensures .1 _ _ (st .input)) (omega arith) (stage .ensures))))

@@ -1,5 +1,4 @@
 -- By the versions that the key has, and by the version.
-use borrow.Author.Needs.{needs}
 use Rattle.protocol.proofs.Picked.{no-key, is-first, not-first, is-second, not-second}
 use Rattle.protocol.proofs.layout.layout_of.Statement.{statement}
 use Rattle.protocol.proofs.layout.layout_of.Tie as tie

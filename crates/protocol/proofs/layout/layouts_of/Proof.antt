@@ -3,7 +3,7 @@ use mathlib.Core.Path.{_≡_, refl, sym, subst}
 use mathlib.Core.List.{List, [], _∷_}
 use Prim.Native.Nat.{ℕ}
 use Rattle.protocol.specs.Decision.{versionsIn, listings, listedOf}
-use Rattle.protocol.specs.Layouts.{kinds, rowFrom, blank}
+use Rattle.protocol.specs.Layouts.{kinds, rowBy, blank}
 use Rattle.protocol.specs.Table.{Listing, table}
 use Rattle.protocol.specs.declared.layout.Listed.{Listed}
 use Rattle.protocol.proofs.Unlisted.{NoneOf, not-among, unlisted}
@@ -31,7 +31,7 @@ none-at : (k : ℕ) (r : Listed) → r ≡ record { versions = 0; first = blank;
 none-at k r f h = subst (λ (x : Listed). listedOf k x ≡ listings k) (sym f) h
 
 pub layouts-of-spec : {M : Type 1} → statement M
-unfolding rowFrom kinds versionsIn table singles
+unfolding rowBy kinds versionsIn table singles
 layouts-of-spec =
     tie.close
     (tie.spec

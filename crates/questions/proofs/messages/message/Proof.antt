@@ -1,7 +1,7 @@
--- By the answer.
+-- By what is found.
+use mathlib.Core.Path.{_∙_, sym, ap}
 use Rattle.questions.specs.Answer.{placeAnswer}
 use Rattle.questions.specs.Questions.{messagePart}
-use mathlib.Core.Path.{_∙_, sym, ap}
 use borrow.Author.Needs.{needs}
 use Rattle.questions.proofs.messages.message.Statement.{statement}
 use Rattle.questions.proofs.messages.message.Tie as tie
@@ -17,5 +17,5 @@ message-spec =
     (λ c. search needs)
     (λ c.
     let found = c .before .before in
-    c .part .ensures ∙ ap (messagePart _) (ap placeAnswer (sym (found .place .given .1)) ∙ found .before .before .message-place .ensures))
-    (λ c. ap (messagePart _) (ap placeAnswer (sym (c .before .enum-told .given .1)) ∙ c .before .before .before .message-place .ensures)))
+    c .part .ensures ∙ ap (messagePart _) (ap placeAnswer (sym (found .place .given .1)) ∙ found .before .before .message-in .ensures))
+    (λ c. ap (messagePart _) (ap placeAnswer (sym (c .before .enum-told .given .1)) ∙ c .before .before .before .message-in .ensures)))

@@ -1,5 +1,5 @@
 -- A place within the source starts and ends in it.
-use Rattle.questions.proofs.Places.{within, part-of}
+use Rattle.fields.proofs.Parts.{ends-inside, lent}
 use mathlib.Core.Path.{_∙_, sym}
 use native.Mathlib.Omega.{arith}
 use borrow.Author.Needs.{needs}
@@ -16,14 +16,14 @@ part-spec =
     (λ c.
     let inside = c .before in
     let start = inside .before .before .before in
-    omega (arith, within (start .args .s .now) (start .args .p) _ (inside .before .is-outside .ensures) (inside .if1 .left)))
+    omega (arith, ends-inside (start .args .s .now) (start .args .p) _ (inside .before .is-outside .ensures) (inside .if1 .left)))
     (λ c. search needs)
     (λ c. search needs)
     (λ c.
     let inside = c .before in
     let start = inside .before .before .before in
-    within (start .args .s .now) (start .args .p) _ (inside .before .is-outside .ensures) (inside .if1 .left))
+    ends-inside (start .args .s .now) (start .args .p) _ (inside .before .is-outside .ensures) (inside .if1 .left))
     (λ c.
     let inside = c .before .before in
     let start = inside .before .before .before in
-    rw (sym (inside .before .is-outside .ensures) ∙ inside .if1 .left) (part-of (start .args .s .now) (start .args .p .at) (start .args .p .len))))
+    rw (sym (inside .before .is-outside .ensures) ∙ inside .if1 .left) (lent (start .args .s .now) (start .args .p .at) (start .args .p .len))))

@@ -1,23 +1,24 @@
--- By the answer.
-use Rattle.questions.proofs.Answers.{element-part}
-use Rattle.questions.specs.Answer.{elementAnswer}
-use Rattle.questions.specs.Questions.{fieldPart}
-use mathlib.Core.Path.{_∙_, sym, ap}
+-- The slots of an element that is found show the places that were read.
+use mathlib.Core.Path.{_∙_}
+use native.Mathlib.Omega.{arith}
+use Rattle.wire.specs.Integers.{Bytes}
+use Rattle.protocol.specs.Kinds.{elementRow}
+use Rattle.questions.proofs.ShownPlaces.{refused-part, shown-part}
 use borrow.Author.Needs.{needs}
 use Rattle.questions.proofs.strings.field_part.Statement.{statement}
 use Rattle.questions.proofs.strings.field_part.Tie as tie
 
 pub field-part-spec : {M : Type 1} → statement M
+unfolding Bytes
 field-part-spec =
     tie.close
     (tie.spec
     (λ c κs. search needs)
     (λ c. search needs)
+    (λ c. refused-part (elementRow (c .before .before .before .before .before .args .kind)) _ _ _ _ _ _ (c .before .before .element .ensures .0) (c .before .if1 .taken))
     (λ c κs. search needs)
     (λ c κs. search needs)
-    (λ c. search needs)
-    (λ c. search needs)
     (λ c.
-    let found = c .before .before .before in
-    element-part _ _ _ _ _ _ _ (c .before .string-in .result) _ (c .nullable-part .ensures) (c .before .string-in .ensures) (ap elementAnswer (sym (found .e .given .1)) ∙ found .before .before .element .ensures .0))
-    (λ c. ap (fieldPart _ _) (ap elementAnswer (sym (c .before .enum-told .given .1)) ∙ c .before .before .before .element .ensures .0)))
+    let e = c .before .before .before in
+    let a = e .before .before .before .args in
+    shown-part (elementRow (a .kind)) (a .s .now) (a .list .count) (a .list .place) (a .index) (a .field) _ (e .element .ensures .0) (λ i. omega (arith, e .before .before .shared-slice-known .given i)) (omega arith) (c .before .before .if1 .left) _ _ _ (e .element .ensures .1) (c .part .ensures ∙ c .before .place-in .ensures (a .s .now) (omega arith))))

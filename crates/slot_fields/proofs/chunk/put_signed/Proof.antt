@@ -17,4 +17,4 @@ put-signed-spec =
     (λ c κs. search needs)
     (λ c κs. search needs)
     (λ c. c .before .out .given)
-    (λ c. let a = c .before .before .before .before .before .before .before .args in c .before .before .put-number .ensures ∙ ap (λ (v : ℕ). put (a .out .now) (a .at) (digits (widthOf (a .width)) v)) (c .before .before .before .narrowed .ensures ∙ ap (λ (n : ℕ). narrow n (a .x)) (c .before .before .before .before .ones .ensures) ∙ narrow-bits (widthOf (a .width)) (a .x))))
+    (λ c. let a = c .before .before .before .before .before .before .before .args in c .before .before .put-number .ensures ∙ ap (λ (v : ℕ). put (a .out .now) (a .at) (digits (widthOf (a .width)) v)) (c .before .before .before .narrowed .ensures ∙ ap (λ (n : ℕ). narrow n (a .x)) (c .before .before .before .before .largest .ensures) ∙ narrow-bits (widthOf (a .width)) (a .x))))

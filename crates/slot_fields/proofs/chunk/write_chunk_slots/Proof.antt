@@ -4,11 +4,11 @@ use Prim.Native.Nat.{ℕ, _+_}
 use native.Mathlib.Omega.{arith}
 use lib.ListN.{getD, drop}
 use Rattle.protocol.specs.Fields.{place}
-use Rattle.fields.proofs.Steps.{stays, put-there, measured-there, refused-with, counted}
+use Rattle.fields.proofs.Steps.{stays, put-there, measured-there, refused-as, refused-with, counted}
 use Rattle.protocol.specs.Kinds as K
 use Rattle.rules.specs.Writing.{writeField}
 use Rattle.slots.specs.Unflat.{unflatField, unflatHeader}
-use Rattle.slot_fields.proofs.ChunkChecks.{refused-as, written, chunk-length}
+use Rattle.slot_fields.proofs.ChunkChecks.{written, chunk-length}
 use borrow.Author.Needs.{needs}
 use Rattle.slot_fields.proofs.chunk.write_chunk_slots.Statement.{statement}
 use Rattle.slot_fields.proofs.chunk.write_chunk_slots.Tie as tie

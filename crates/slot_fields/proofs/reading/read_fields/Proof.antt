@@ -1,20 +1,30 @@
--- The invariant: the kinds before the index were read, and their slots were put.
-use mathlib.Core.Path.{_≡_, refl, _∙_}
-use Prim.Native.Nat.{_≤_, _-_, _+_, _*_}
+-- The invariant: what is left of the row stops where the row does, and what it puts fills the slots of the row.
+use mathlib.Core.Path.{_≡_, refl, _∙_, ap}
+use Prim.Native.Nat.{_≤_, _<_, _-_, _+_, _*_}
 use native.Mathlib.Omega.{arith}
-use lib.ListN.{length, getD}
+use lib.ListN.{length, drop, getD}
+use Rattle.protocol.specs.Layouts.{kindOf, rowBy, rowFrom}
+use Rattle.rules.specs.Reading.{readRow}
+use Rattle.fields.specs.Stops.{stop}
+use Rattle.lists.proofs.Rows.{row-ended, row-refused, row-turns}
+use Rattle.slot_fields.proofs.RowSlots.{Continues, fills-next, filled-all, kind-length, refused-filled}
 use borrow.Author.Needs.{needs}
-use Rattle.protocol.specs.Layouts.{kindOf}
-use Rattle.slot_fields.proofs.Walk.{Passed, starts, turns, ends, slots-end, filled, into-length}
 use Rattle.slot_fields.proofs.reading.read_fields.Statement.{statement}
 use Rattle.slot_fields.proofs.reading.read_fields.Tie as tie
 
 abbrev Inv-loop : tie.InvT-loop
-Inv-loop s slots₀ fields c₀ at₀ i₀ slots c at i =
-    (i ≤ 6) × (at ≤ 2 + 14 * i) × (length slots ≡ length slots₀) × (length fields ≡ 6) × Passed s fields slots₀ i c at slots
+Inv-loop s start base slots₀ first fields at₀ slot₀ i₀ slots at slot i =
+    (i ≤ 6) × (slot ≤ first + i * 14) × (length fields ≡ 6) × (length slots ≡ length slots₀) × (stop (readRow (rowBy kindOf (drop i fields)) s at) ≡ stop (readRow (rowFrom fields) s start))
+    × Continues base s (rowBy kindOf (drop i fields)) at slots slot (rowFrom fields) start slots₀ first
 
 abbrev μ-loop : tie.MeasureT-loop
-μ-loop s slots₀ fields c₀ at₀ i₀ slots c at i = 6 - i
+μ-loop s start base slots₀ first fields at₀ slot₀ i₀ slots at slot i = 6 - i
+
+more : (c : tie.In-loop Inv-loop μ-loop) → c .before .loop .i < length (c .before .before .before .before .args .t4)
+more c = let l = c .before .loop .inv .2 in omega arith
+
+last : (c : tie.After-loop Inv-loop μ-loop) → c .before .loop .i ≡ length (c .before .before .before .before .args .t4)
+last c = let l = c .before .loop .inv .2 in omega arith
 
 pub read-fields-spec : {M : Type 1} → statement M
 read-fields-spec =
@@ -22,32 +32,43 @@ read-fields-spec =
     (tie.spec
     Inv-loop
     μ-loop
-    (λ c κs. search needs)
-    (λ c. (search needs, search needs, refl, search needs, starts _ _ _ _ (c .content .ensures)))
+    (λ c. (search needs, search needs, search needs, search needs, refl, λ new f. f))
     (λ c. search needs)
     (λ c κs. search needs)
     (λ c κs. search needs)
+    (λ c. search needs)
+    (λ c.
+    let r = c .before .before .before .before in
+    let k = r .before .before in
+    let l = k .before .before in
+    let f = rw (k .field-kind .ensures) at (r .read-field .ensures .0) in
+    let e = row-refused kindOf _ _ _ _ _ (more (k .before)) f (c .if1 .taken) ∙ l .loop .inv .4 in
+    (e, refused-filled _ _ _ _ _ _ _ _ e (c .if1 .taken)))
     (λ c κs. search needs)
-    (λ c. omega (arith, c .slots-of .ensures .1))
+    (λ c. let l = c .before .before .before .before .before .before .before .before .before in omega (arith, l .loop .inv .0, l .loop .inv .1, l .before .before .before .pre .1, c .slots-of .ensures .1))
     (λ c. search needs)
     (λ c. search needs)
     (λ c.
-    let field = c .before .before .before in
-    let kind = field .before .before .field-kind .ensures in
-    let l = field .before .before .before .before .loop in
-    let a = field .before .before .before .before .before .before .before .before .args in
-    let long = l .inv .3 in
-    let into = rw kind at (field .read-field .ensures) in (
+    let r = c .before .before .before .before .before in
+    let k = r .before .before in
+    let l = k .before .before in
+    let a = l .before .before .before .args in
+    let v = l .loop .inv in
+    let f = rw (k .field-kind .ensures) at (r .read-field .ensures .0) in
+    let p = rw (k .field-kind .ensures) at (r .read-field .ensures .1) in
+    let n = rw (k .field-kind .ensures) at (c .slots-of .ensures .0) in
+    let z = c .before .if1 .left in
+    let m = more (k .before) in (
       search needs,
-      omega (arith, c .slots-of .ensures .1, l .inv .1),
-      into-length (kindOf (getD (a .t2) (l .i) 0)) (a .s .now) (l .c) (l .at) (l .slots) _ _ into ∙ l .inv .2,
-      long,
-      turns (a .s .now) (a .t2) (a .slots .now) (l .i) (l .c) (l .at) (l .slots) (l .inv .4) _ _ _ (omega arith) (rw kind at (c .slots-of .ensures .0)) into,
+      omega (arith, v .1, c .slots-of .ensures .1),
+      v .2,
+      ap length p ∙ kind-length (a .base) (kindOf (getD (a .t4) (l .loop .i) 0)) (a .s .now) (l .loop .at) (l .loop .slots) (l .loop .slot) ∙ v .3,
+      row-turns kindOf _ _ _ _ _ m f z ∙ v .4,
+      λ new g. v .5 new (fills-next (a .base) (a .t4) (a .s .now) (l .loop .i) (l .loop .at) (l .loop .slots) (l .loop .slot) _ _ _ z m f p n new g),
     ))
-    (λ c. c .before .loop .inv .2)
+    (λ c κs. search needs)
+    (λ c. c .before .before .loop .inv .3)
     (λ c.
-    let l = c .before .loop in
-    let a = c .before .before .before .before .before .args in
-    let long = l .inv .3 in
-    let last : l .i ≡ length (a .t2) = omega arith in
-    (ends _ _ _ _ _ _ _ (l .inv .4) last, (slots-end _ _ _ _ _ _ _ (l .inv .4) last, filled _ _ _ _ _ _ _ (l .inv .4) last))))
+    let l = c .before .before in
+    let a = l .before .before .before .args in
+    (c .after .ensures ∙ row-ended kindOf _ _ _ _ (last (c .before)) ∙ l .loop .inv .4, l .loop .inv .5 _ (filled-all (a .base) (a .t4) (a .s .now) (l .loop .i) (l .loop .at) (l .loop .slots) (l .loop .slot) (last (c .before))))))

@@ -3,7 +3,7 @@ use mathlib.Core.Path.{refl, sym}
 use lib.ListN.{length-set}
 use lib.Seq.{set-out}
 use borrow.Author.Tests.{lt-ltb, le-ltb}
-use Rattle.test_frames.proofs.Counting.{counts}
+use Rattle.test_text.proofs.Octets.{counts}
 use borrow.Author.Needs.{needs}
 use Rattle.test_frames.proofs.line.one_more.Statement.{statement}
 use Rattle.test_frames.proofs.line.one_more.Tie as tie

@@ -5,7 +5,7 @@ use mathlib.Core.Path.{_≡_, sym, ap, _∙_}
 use lib.ListN.{take}
 use denote.Ref.{now}
 use borrow.Author.Needs.{needs}
-use Rattle.test_ledgers.specs.Numbers.{numberIn, octets}
+use Rattle.test_text.specs.Digits.{numberIn, octets}
 use Rattle.test_ledgers.specs.Words.{afterSpace}
 use Rattle.test_ledgers.specs.Calls.{creditCall, publisherCall, creditsBy, publishersBy, first, second, creditsAfter, publishersAfter}
 use Rattle.test_ledgers.specs.declared.script.Word.{Word}

@@ -24,4 +24,4 @@ receive-spec =
     (λ c.
     let put = c .before .before .before .before .before .before in
     let a = put .before .before .before .before .args in
-    c .before .receive .ensures .1 .0 ∙ ap (λ (b : List ℕ). after (now (a .credits)) (received b (a .limit))) (frame-bytes _ _ _ _ 4096 (put .before .before .buffer .ensures) (put .hex .ensures .0) (put .hex .ensures .1 .0))))
+    c .before .receive .ensures .1 .0 ∙ ap (λ (b : List ℕ). after (now (a .credits)) (received b (a .limit))) (frame-bytes _ _ _ _ 4096 (put .before .before .buffer .ensures) (put .unhex .ensures .0) (put .unhex .ensures .1 .0))))

@@ -5,7 +5,7 @@ use borrow.Author.Needs.{needs}
 use denote.Ref.{now}
 use Rattle.wire.specs.Integers.{Bytes}
 use Rattle.frame_reading.proofs.Told.{short-told, refusal-told}
-use Rattle.typed_frames.proofs.Back.{read-listed, read-typed}
+use Rattle.typed_frames.proofs.Back.{read-typed}
 use Rattle.typed_frames.proofs.reading.read.Statement.{statement}
 use Rattle.typed_frames.proofs.reading.read.Tie as tie
 
@@ -26,6 +26,6 @@ read-spec =
     let bytes : Bytes (now (known .before .args .bytes)) = λ i. omega (arith, known .shared-slice-known .given i) in
     let frame = sym (told .enum-told .given .1) ∙ read .read .ensures .0 in
     let slots = read .read .ensures .1 .0 in
-    read-typed _ _ _ _ bytes frame slots _ (c .frame-of .ensures (read-listed _ _ _ _ bytes frame slots)))
+    read-typed _ _ _ _ bytes frame slots _ (c .frame-of .ensures))
     (λ c. short-told _ _ (sym (c .before .needed .given .1) ∙ c .before .before .before .read .ensures .0))
     (λ c. refusal-told _ _ _ (sym (c .before .number .given .1) ∙ c .before .before .before .read .ensures .0)))

@@ -1,5 +1,5 @@
 -- Each arm is one row of the ABNF, or a gap between two rows.
-use mathlib.Core.Path.{_≡_, sym}
+use mathlib.Core.Path.{sym}
 use native.Mathlib.Omega.{arith}
 use borrow.Author.Needs.{needs}
 use Rattle.unicode.specs.Utf8.{expects}

@@ -1,6 +1,6 @@
 -- A text of ASCII alone is UTF-8. For any other, the invariant: what has to follow the whole text is what has to
 -- follow the rest of it after the state reached.
-use mathlib.Core.Path.{_≡_, refl, _∙_, sym, ap}
+use mathlib.Core.Path.{_≡_, _∙_, sym}
 use mathlib.Core.List.{[]}
 use mathlib.Core.Option.{some}
 use Prim.Native.Nat.{_≤_, _-_}

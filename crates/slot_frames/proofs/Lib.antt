@@ -1,3 +1,0 @@
--- Lemmas that belong to no one function.
-mod Groups
-mod Taken

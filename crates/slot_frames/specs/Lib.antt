@@ -1,3 +1,0 @@
--- Typed frames from their slots.
-pub mod Taken
-pub mod Typed

@@ -1,0 +1,2 @@
+-- The digits of the inputs.
+pub mod Digits

@@ -1,0 +1,4 @@
+-- Slots that are filled and taken in wire order.
+pub mod Built
+pub mod Taken
+pub mod Typed

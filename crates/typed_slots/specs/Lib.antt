@@ -1,2 +1,0 @@
--- Slots that are filled in wire order.
-pub mod Built
