@@ -2,7 +2,7 @@
 ghost use Rattle.std.specs.Prelude.{false, [], ◌≡◌, ◌+◌, ◌-◌, ◌/◌, ◌^◌, ◌≤◌, eqb, leb, length, take, drop};
 ghost use Rattle.std.proofs.Math.Option.{some};
 ghost use Rattle.wire.specs.Integers.{number_or_zero, width_of};
-ghost use Rattle.unicode.specs.Utf8.{utf8};
+ghost use Rattle.utf8_text.specs.Utf8.{utf8};
 ghost use Rattle.protocol.specs.Fields.{place};
 ghost use Rattle.protocol.specs.Kinds.{length_width};
 ghost use Rattle.protocol.specs.Refusals.{bad_length, reference_too_long};
@@ -99,14 +99,14 @@ fn is_text(s: &[u8], at: usize, len: usize, form: Form) -> bool
     }
 }
 
-// `unicode::is_utf8` is long, and called only here, so it is inlined here. So `is_string` and `string_refusal` stay short enough to be
+// `utf8_text::is_utf8` is long, and called only here, so it is inlined here. So `is_string` and `string_refusal` stay short enough to be
 // inlined too, and their callers know the length and the room.
 fn is_utf8_at(s: &[u8], at: usize, len: usize) -> bool
     requires { at + len ≤ length s.now }
     ensures { result ≡ utf8 (take len (drop at s.now)) }
 {
     let end = at + len;
-    unicode::is_utf8(&s[at..end])
+    utf8_text::is_utf8(&s[at..end])
 }
 
 // Whether the length at a place is that of a null.

@@ -2,7 +2,7 @@
 use mathlib.Core.Path.{refl}
 use Rattle.wire.specs.Integers.{big_endian}
 use Rattle.wire.specs.Signed.{signed}
-use Rattle.unicode.specs.Utf8.{characters, begun, following}
+use Rattle.utf8_text.specs.Utf8.{characters, begun, following}
 use Rattle.protocol.specs.Decision.{versions_in, of_version, decide}
 use Rattle.protocol.specs.Table.{table, row_in}
 use Rattle.rules.specs.Outcome.{repeated}

@@ -4,7 +4,7 @@ use Rattle.std.specs.Prelude.{◌≡◌, Bool, true, List, [], ◌∷◌, ◌++�
 use Rattle.std.proofs.Math.Option.{Option, none, some}
 use Rattle.wire.specs.Integers.{digits}
 use Rattle.wire.specs.Signed as two's
-use Rattle.unicode.specs.Utf8.{utf8}
+use Rattle.utf8_text.specs.Utf8.{utf8}
 use Rattle.protocol.specs.Decision.{layout, decide}
 use Rattle.protocol.specs.Fields.{Field, Fields, number, integer, elements}
 use Rattle.protocol.specs.Fields as F

@@ -4,7 +4,7 @@ use Rattle.std.specs.Prelude.{Bool, true, false, cond, not, ◌&&◌, List, [], 
 use Rattle.std.proofs.Math.Option.{none, some}
 use Rattle.wire.specs.Integers.{big_endian}
 use Rattle.wire.specs.Signed as two's
-use Rattle.unicode.specs.Utf8.{utf8}
+use Rattle.utf8_text.specs.Utf8.{utf8}
 use Rattle.protocol.specs.Decision.{Decision, layout, unlisted_key, unlisted_version, decide}
 use Rattle.protocol.specs.Fields.{Field, Fields, number, integer, elements, place, over_places, further}
 use Rattle.protocol.specs.Fields as F

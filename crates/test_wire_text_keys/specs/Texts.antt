@@ -1,6 +1,6 @@
 -- The texts that are tried: a leading byte, followed by bytes at the edges of the ranges that RFC 3629 names.
 use Rattle.std.specs.Prelude.{ℕ, ◌/◌, ◌%◌, Bool, cond, List, [], ◌∷◌, take, get_or}
-use Rattle.unicode.specs.Utf8.{utf8}
+use Rattle.utf8_text.specs.Utf8.{utf8}
 use Rattle.test_wire_text_keys.specs.Sums.{sum_below, one_if}
 use Rattle.test_wire_text_keys.specs.declared.utf8.Accepted.{Accepted}
 

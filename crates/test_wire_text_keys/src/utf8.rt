@@ -61,7 +61,7 @@ fn passes(lead: u8, len: usize, k: usize) -> bool
     ensures { result ≡ passes lead len k }
 {
     let text = [lead, edge(k), edge(k / 10), edge(k / 100)];
-    unicode::is_utf8(&text[0..len])
+    utf8_text::is_utf8(&text[0..len])
 }
 
 // The edge that a number's last digit chooses.

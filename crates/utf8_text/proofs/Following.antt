@@ -10,8 +10,8 @@ use lib.Dec.{leb, eqb, eqb-suc-zero}
 use lib.ListN.{length, get_or, drop, replicate, drop_of_length-le}
 use lib.Seq.{drop-cons}
 use borrow.Author.Tests.{le-leb, lt-leb, ne_eqb}
-use Rattle.unicode.specs.Utf8.{Range, ◌‥◌, within, tail, begun, characters, first, next, following, whole, utf8, ranges, expects}
-use Rattle.unicode.specs.declared.utf8.Pending.{Pending}
+use Rattle.utf8_text.specs.Utf8.{Range, ◌‥◌, within, tail, begun, characters, first, next, following, whole, utf8, ranges, expects}
+use Rattle.utf8_text.specs.declared.utf8.Pending.{Pending}
 
 pub inside : (low high b : ℕ) → low ≤ b → b ≤ high → within (low ‥ high) b ≡ true
 inside low high b p q = simp (le-leb low b p, le-leb b high q)

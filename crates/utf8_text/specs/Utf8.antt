@@ -1,7 +1,7 @@
 -- UTF-8 (RFC 3629, section 4: the ABNF).
 use Rattle.std.specs.Prelude.{Bool, true, false, cond, ◌&&◌, List, [], ◌∷◌, ℕ, zero, suc, leb, ltb, eqb, replicate}
 use Rattle.std.proofs.Math.Option.{Option, none, some}
-use Rattle.unicode.specs.declared.utf8.Pending.{Pending}
+use Rattle.utf8_text.specs.declared.utf8.Pending.{Pending}
 
 infix 70 ◌‥◌
 -- The bytes from one to another, both included: `0xc2 ‥ 0xdf` is the ABNF's %x_c2-DF.

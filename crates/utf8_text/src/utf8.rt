@@ -1,6 +1,6 @@
 // UTF-8 as RFC 3629 has it: no overlong form, no surrogate, nothing above 10FFFF.
 ghost use Rattle.std.specs.Prelude.{◌≡◌, ◌+◌, ◌≤◌, length, take, drop};
-ghost use Rattle.unicode.specs.Utf8.{utf8, ascii, first, next, expects};
+ghost use Rattle.utf8_text.specs.Utf8.{utf8, ascii, first, next, expects};
 
 // What has to follow in a character that has begun: `left` bytes, the first of them from `low` to `high`, the others
 // tail bytes. `left` is 0 between two characters, and WRONG once nothing can make the text right.

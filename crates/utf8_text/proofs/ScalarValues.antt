@@ -10,9 +10,9 @@ use native.Mathlib.Omega.{arith}
 use lib.Dec.{leb, ltb}
 use lib.ListN.{length, length-append}
 use borrow.Author.Tests.{lt-ltb, le-ltb, leb-true, leb-false, ltb-true, ltb-false}
-use Rattle.unicode.specs.Utf8.{Range, ◌‥◌, within, tail, first, following, whole, utf8}
-use Rattle.unicode.specs.Unicode.{Scalar, character, encoded, Scalars, Unicode}
-use Rattle.unicode.proofs.Following.{inside, after_e0, after_ed, after_f0, after_f4, one_byte, two_bytes_lem, three_bytes, three_bytes_high, four_bytes, no_first_low, no_first_high}
+use Rattle.utf8_text.specs.Utf8.{Range, ◌‥◌, within, tail, first, following, whole, utf8}
+use Rattle.utf8_text.specs.Unicode.{Scalar, character, encoded, Scalars, Unicode}
+use Rattle.utf8_text.proofs.Following.{inside, after_e0, after_ed, after_f0, after_f4, one_byte, two_bytes_lem, three_bytes, three_bytes_high, four_bytes, no_first_low, no_first_high}
 
 by_test : {P : Type 0} (t : Bool) → (t ≡ true → P) → (t ≡ false → P) → P
 by_test true f g = f refl

@@ -1,6 +1,6 @@
 -- What the ABNF means: UTF-8 text is the Unicode scalar values' encodings, one after another (RFC 3629, section 3).
 use Rattle.std.specs.Prelude.{◌≡◌, cond, true, List, [], ◌∷◌, ◌++◌, ◌⊎◌, ◌↔◌, ℕ, ◌+◌, ◌/◌, ◌%◌, ◌≤◌, ltb}
-use Rattle.unicode.specs.Utf8.{utf8}
+use Rattle.utf8_text.specs.Utf8.{utf8}
 
 -- A Unicode scalar value: any character number but a surrogate.
 abbrev pub Scalar : ℕ → Type 0

@@ -2,10 +2,10 @@
 use mathlib.Core.Path.{sym}
 use native.Mathlib.Omega.{arith}
 use borrow.Author.Rules.{rules}
-use Rattle.unicode.specs.Utf8.{expects}
-use Rattle.unicode.proofs.Following.{after_e0, after_ed, after_f0, after_f4, one_byte, two_bytes_lem, three_bytes, three_bytes_high, four_bytes, no_first_low, no_first_high}
-use Rattle.unicode.proofs.utf8.after_first.Statement.{statement}
-use Rattle.unicode.proofs.utf8.after_first.Tie as tie
+use Rattle.utf8_text.specs.Utf8.{expects}
+use Rattle.utf8_text.proofs.Following.{after_e0, after_ed, after_f0, after_f4, one_byte, two_bytes_lem, three_bytes, three_bytes_high, four_bytes, no_first_low, no_first_high}
+use Rattle.utf8_text.proofs.utf8.after_first.Statement.{statement}
+use Rattle.utf8_text.proofs.utf8.after_first.Tie as tie
 
 pub after_first_spec : {M : Type 1} → statement M
 unfolding expects

@@ -5,10 +5,10 @@ use Prim.Native.Nat.{◌≤◌, ◌-◌}
 use borrow.Author.Rules.{rules}
 use lib.ListN.{length, take}
 use lib.Seq.{take_all}
-use Rattle.unicode.specs.Utf8.{ascii}
-use Rattle.unicode.proofs.Ascii.{is_ascii, is_not, turn, broken}
-use Rattle.unicode.proofs.utf8.bytes_ascii.Statement.{statement}
-use Rattle.unicode.proofs.utf8.bytes_ascii.Tie as tie
+use Rattle.utf8_text.specs.Utf8.{ascii}
+use Rattle.utf8_text.proofs.Ascii.{is_ascii, is_not, turn, broken}
+use Rattle.utf8_text.proofs.utf8.bytes_ascii.Statement.{statement}
+use Rattle.utf8_text.proofs.utf8.bytes_ascii.Tie as tie
 
 abbrev invariant_loop : tie.invariant_loop
 invariant_loop s i₀ i = (i ≤ length s) × (ascii (take i s) ≡ true)

@@ -6,11 +6,11 @@ use mathlib.Core.Option.{some}
 use Prim.Native.Nat.{◌≤◌, ◌-◌}
 use borrow.Author.Rules.{rules}
 use lib.ListN.{length, drop}
-use Rattle.unicode.specs.Utf8.{following, expects}
-use Rattle.unicode.proofs.Following.{start, turn, ended}
-use Rattle.unicode.proofs.Ascii.{ascii_utf8}
-use Rattle.unicode.proofs.utf8.is_utf8.Statement.{statement}
-use Rattle.unicode.proofs.utf8.is_utf8.Tie as tie
+use Rattle.utf8_text.specs.Utf8.{following, expects}
+use Rattle.utf8_text.proofs.Following.{start, turn, ended}
+use Rattle.utf8_text.proofs.Ascii.{ascii_utf8}
+use Rattle.utf8_text.proofs.utf8.is_utf8.Statement.{statement}
+use Rattle.utf8_text.proofs.utf8.is_utf8.Tie as tie
 
 abbrev invariant_loop : tie.invariant_loop
 invariant_loop s p₀ i₀ p i = (i ≤ length s) × (following (some []) s ≡ following (expects p) (drop i s))

@@ -1,8 +1,8 @@
 -- The four bytes, one after another.
 use borrow.Author.Rules.{rules}
-use Rattle.unicode.proofs.Ascii.{four}
-use Rattle.unicode.proofs.utf8.four_ascii.Statement.{statement}
-use Rattle.unicode.proofs.utf8.four_ascii.Tie as tie
+use Rattle.utf8_text.proofs.Ascii.{four}
+use Rattle.utf8_text.proofs.utf8.four_ascii.Statement.{statement}
+use Rattle.utf8_text.proofs.utf8.four_ascii.Tie as tie
 
 pub four_ascii_spec : {M : Type 1} → statement M
 four_ascii_spec =

@@ -7,10 +7,10 @@ use native.Mathlib.Omega.{arith}
 use borrow.Author.Rules.{rules}
 use borrow.Author.Tests.{not-true, not-false}
 use lib.ListN.{length, take, drop}
-use Rattle.unicode.specs.Utf8.{ascii}
-use Rattle.unicode.proofs.Ascii.{turn, broken, ended}
-use Rattle.unicode.proofs.utf8.is_ascii.Statement.{statement}
-use Rattle.unicode.proofs.utf8.is_ascii.Tie as tie
+use Rattle.utf8_text.specs.Utf8.{ascii}
+use Rattle.utf8_text.proofs.Ascii.{turn, broken, ended}
+use Rattle.utf8_text.proofs.utf8.is_ascii.Statement.{statement}
+use Rattle.utf8_text.proofs.utf8.is_ascii.Tie as tie
 
 abbrev invariant_loop : tie.invariant_loop
 invariant_loop s n last i₀ i = ascii (take i s) ≡ true

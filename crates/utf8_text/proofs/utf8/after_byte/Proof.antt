@@ -2,10 +2,10 @@
 use native.Mathlib.Omega.{arith}
 use borrow.Author.Rules.{rules}
 use borrow.Author.Tests.{eq-eqb}
-use Rattle.unicode.specs.Utf8.{expects}
-use Rattle.unicode.proofs.Following.{above, below, out_of_range, in_range}
-use Rattle.unicode.proofs.utf8.after_byte.Statement.{statement}
-use Rattle.unicode.proofs.utf8.after_byte.Tie as tie
+use Rattle.utf8_text.specs.Utf8.{expects}
+use Rattle.utf8_text.proofs.Following.{above, below, out_of_range, in_range}
+use Rattle.utf8_text.proofs.utf8.after_byte.Statement.{statement}
+use Rattle.utf8_text.proofs.utf8.after_byte.Tie as tie
 
 dead : tie.Need-returns
 unfolding expects

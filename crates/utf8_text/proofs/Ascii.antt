@@ -9,8 +9,8 @@ use lib.Dec.{ltb}
 use lib.ListN.{length, get_or, take, drop, take-append-drop, length-drop}
 use lib.Seq.{drop-cons, take-add, drop-drop, take-take, take_all}
 use borrow.Author.Tests.{ltb-true, lt-ltb, le-ltb}
-use Rattle.unicode.specs.Utf8.{following, whole, utf8, ascii}
-use Rattle.unicode.proofs.Following.{one_byte}
+use Rattle.utf8_text.specs.Utf8.{following, whole, utf8, ascii}
+use Rattle.utf8_text.proofs.Following.{one_byte}
 
 ascii_append : (s t : List ℕ) → ascii (s ++ t) ≡ (ascii s && ascii t)
 unfolding ascii

@@ -1,8 +1,8 @@
 -- The eight bytes are four and four.
 use borrow.Author.Rules.{rules}
-use Rattle.unicode.proofs.Ascii.{parts}
-use Rattle.unicode.proofs.utf8.word_ascii.Statement.{statement}
-use Rattle.unicode.proofs.utf8.word_ascii.Tie as tie
+use Rattle.utf8_text.proofs.Ascii.{parts}
+use Rattle.utf8_text.proofs.utf8.word_ascii.Statement.{statement}
+use Rattle.utf8_text.proofs.utf8.word_ascii.Tie as tie
 
 returns : tie.Need-returns
 returns c =
