@@ -1,5 +1,7 @@
 // The rule of byte strings, that is text T, references R and bytes B: what one may be, and where it ends or why it is refused. Also
 // `Stop`, where reading stopped, which every reader answers with.
+#![tactic(auto)]
+
 
 mod ends;
 mod stop;

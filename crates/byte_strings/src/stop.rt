@@ -3,7 +3,7 @@ ghost use Rattle.std.specs.Prelude.{◌≡◌};
 ghost use Rattle.byte_strings.specs.Stops.{stop_at};
 
 // After what was read, and then `refused` is 0; or at the place at fault, with the number of the refusal.
-#[derive(Drop)]
+#[derive(Clone, Copy)]
 pub struct Stop {
     pub at: usize,
     pub refused: u8,

@@ -8,7 +8,7 @@ ghost use Rattle.captures.specs.Following.{following};
 use frame_head::head_of;
 use frame_reading::FrameRead;
 
-#[derive(Drop)]
+#[derive(Clone, Copy)]
 pub enum Next {
     // A frame, with its length in bytes: Size and the four bytes of Size itself.
     Frame { length: u64 },

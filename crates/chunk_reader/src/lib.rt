@@ -1,5 +1,7 @@
 // The chunk reader (01 "Chunks"): made of a chunk's bytes, it gives the messages in order, each once, and then says it
 // is done.
+#![tactic(auto)]
+
 mod reader;
 mod spot;
 

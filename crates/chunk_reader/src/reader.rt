@@ -7,7 +7,7 @@ ghost use Rattle.chunk_reader.specs.Reader.{new_reader, next_reader};
 
 use crate::spot::{Found, Spot, advance, fewer, part, start};
 
-#[derive(Drop)]
+#[derive(Clone, Copy)]
 pub struct ChunkReader<'a> {
     // The header first.
     pub chunk: &'a [u8],

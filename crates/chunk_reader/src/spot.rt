@@ -7,7 +7,7 @@ use chunks::{chunk_end, entry_count, entry_end};
 use protocol::Place;
 
 // What a reader says.
-#[derive(Drop)]
+#[derive(Clone, Copy)]
 pub enum Found {
     // It was not asked yet.
     Ready,
@@ -19,7 +19,7 @@ pub enum Found {
     Refused(u8),
 }
 
-#[derive(Drop)]
+#[derive(Clone, Copy)]
 pub struct Spot {
     // Where the next entry begins.
     pub at: usize,

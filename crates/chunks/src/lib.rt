@@ -1,4 +1,6 @@
 // Chunks and their entries.
+#![tactic(auto)]
+
 mod chunk;
 mod chunk_type;
 mod entry;

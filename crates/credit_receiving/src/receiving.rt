@@ -9,7 +9,7 @@ use crate::subscription::{affords, spend, subscription_of};
 use frame_reading::FrameRead;
 use ledger::Change;
 
-#[derive(Drop)]
+#[derive(Clone, Copy)]
 pub enum Received {
     // What reading answers: the slots are the frame's, or reading's own refusal.
     Reading(FrameRead),

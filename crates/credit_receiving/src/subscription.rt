@@ -8,7 +8,7 @@ use ledger::Change;
 use protocol::refusal;
 
 // The subscription that a Deliver is for; other frames are for none.
-#[derive(Drop)]
+#[derive(Clone, Copy)]
 pub enum Subscription {
     Id(u8),
     Nothing,

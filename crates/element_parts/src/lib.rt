@@ -1,4 +1,6 @@
 // The texts and byte strings of elements, as parts of the caller's bytes.
+#![tactic(auto)]
+
 ghost use Rattle.std.specs.Prelude.{◌≡◌, List, ℕ, ◌<◌, drop, length};
 ghost use Rattle.protocol.specs.Kinds.{element_row};
 ghost use Rattle.protocol.specs.Layouts.{kind_said};

@@ -1,4 +1,6 @@
 // Reading the most frequent frames straight into their slots.
+#![tactic(auto)]
+
 ghost use Rattle.std.specs.Prelude.{◌≡◌, ◌+◌, ◌^◌, ◌<◌, ◌≤◌, length};
 ghost use Rattle.wire.specs.Integers.{big_endian, width_of};
 

@@ -9,7 +9,7 @@ use crate::consuming::{credit, deliver, subscribe};
 use crate::publishing::{declare_publisher, publish, publish_confirm};
 
 // What became of a content. Only a frame that is read changes the slots.
-#[derive(Drop)]
+#[derive(Clone, Copy)]
 pub enum Fast {
     // The slots are the frame's.
     Frame,

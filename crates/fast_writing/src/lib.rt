@@ -1,4 +1,6 @@
 // Writing the most frequent frames straight from their slots.
+#![tactic(auto)]
+
 mod consuming;
 mod publishing;
 mod puts;

@@ -9,7 +9,7 @@ use crate::consuming::{credit, deliver, subscribe};
 use crate::publishing::{declare_publisher, publish, publish_confirm};
 use frame_head::{fits, put_head};
 
-#[derive(Drop)]
+#[derive(Clone, Copy)]
 pub enum Fast {
     // The frame's length.
     Length(u64),

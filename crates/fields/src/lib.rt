@@ -1,5 +1,7 @@
 // The rule of each other kind of single field, that is numbers and offset specifications: where it ends, or why it is refused;
 // and a writer for each kind, byte strings too.
+#![tactic(auto)]
+
 
 mod number;
 mod offset;

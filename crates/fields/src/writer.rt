@@ -4,7 +4,7 @@
 ghost use Rattle.std.specs.Prelude.{true, false, ◌≡◌, ◌+◌};
 ghost use Rattle.fields.specs.Writer.{writer, capped};
 
-#[derive(Drop)]
+#[derive(Clone, Copy)]
 pub struct Writer {
     // While measuring the length so far, and while putting the place in the output.
     pub at: usize,

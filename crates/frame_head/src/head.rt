@@ -7,7 +7,7 @@ ghost use Rattle.frame_head.specs.Head.{head_of};
 
 use wire::Width;
 
-#[derive(Drop)]
+#[derive(Clone, Copy)]
 pub struct Head {
     pub size: u32,
     pub key: u16,

@@ -1,4 +1,6 @@
 // What stands in front of a frame's content: Size, key and version, read and written; and what Size may be.
+#![tactic(auto)]
+
 mod head;
 mod size;
 

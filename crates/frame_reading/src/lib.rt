@@ -1,4 +1,6 @@
 // Reading whole frames.
+#![tactic(auto)]
+
 mod reading;
 
 pub use reading::{FrameRead, read};

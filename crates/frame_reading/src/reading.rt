@@ -12,7 +12,7 @@ use fast_reading::Fast;
 use frame_head::{head_of, over_limit};
 use protocol::{Decided, refusal};
 
-#[derive(Drop)]
+#[derive(Clone, Copy)]
 pub enum FrameRead {
     // The slots are the frame's.
     Frame,

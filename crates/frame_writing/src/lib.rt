@@ -1,4 +1,6 @@
 // Writing whole frames.
+#![tactic(auto)]
+
 mod writing;
 
 pub use writing::{Written, write};

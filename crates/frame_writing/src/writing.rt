@@ -14,7 +14,7 @@ use protocol::{Decided, Picked, refusal};
 use slot_writing::write_fields;
 use slots::slot;
 
-#[derive(Drop)]
+#[derive(Clone, Copy)]
 pub enum Written {
     // The frame's length.
     Length(u64),

@@ -5,7 +5,7 @@ ghost use Rattle.wire.specs.Buffer.{splice};
 ghost use Rattle.input_window.specs.Reads.{in_order, after_read};
 ghost use Rattle.input_window.specs.Window.{Shows, taken_from};
 
-#[derive(Drop)]
+#[derive(Clone, Copy)]
 pub struct Input {
     // The bytes of the window from a place up to another, which were read and are not taken yet.
     pub from: usize,

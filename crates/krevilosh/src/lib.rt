@@ -1,5 +1,7 @@
 // What the host links: the functions of libkrevilosh.a. Each hands back one number, whose low 8 bits are the refusal's
 // number, 0 where the call is accepted. A refused call changes nothing behind any pointer.
+#![tactic(auto)]
+
 ghost use Rattle.std.specs.Prelude.{◌≡◌, ◌<◌};
 ghost use Rattle.krevilosh.specs.Answer.{answer};
 

@@ -1,5 +1,7 @@
 // A ledger of 256 ids in an array that the host lends: 0 for a closed id, the balance and 1 for an open one. The entry
 // behind the ids is not used. The credit ledger and the publisher ledger are made of these calls.
+#![tactic(auto)]
+
 ghost use Rattle.std.specs.Prelude.{◌≡◌};
 ghost use Rattle.ledger.specs.Calls.{start, add, take, stop};
 ghost use Rattle.ledger.specs.Rules.{refusal, entry_at, ledger_at, empty, decode, store};
@@ -10,13 +12,13 @@ use protocol::refusal;
 // The largest balance that a call can leave.
 const MOST: u32 = 1_000_000;
 
-#[derive(Drop)]
+#[derive(Clone, Copy)]
 pub enum Change {
     Accepted,
     Refused(u8),
 }
 
-#[derive(Drop)]
+#[derive(Clone, Copy)]
 pub enum IdState {
     Closed,
     Open(u32),

@@ -1,4 +1,6 @@
 // Lists the frames of a capture on standard input (01 "The listing program").
+#![tactic(auto)]
+
 use libc::STDERR_FILENO;
 use listing_loop::Stage;
 

@@ -1,4 +1,6 @@
 // The lines of a capture's listing.
+#![tactic(auto)]
+
 mod line;
 mod text;
 

@@ -11,7 +11,7 @@ use libc::{STDIN_FILENO, STDOUT_FILENO};
 use listing_text::{LONGEST, State, list};
 
 // What a listing does next, or why it is over.
-#[derive(Drop)]
+#[derive(Clone, Copy)]
 pub enum Stage {
     // The bytes that are there are to be listed.
     Listing,
@@ -30,7 +30,7 @@ pub enum Stage {
 }
 
 // Where a listing is.
-#[derive(Drop)]
+#[derive(Clone, Copy)]
 pub struct Session {
     // What was read and is not listed yet, and where it stands in the capture.
     pub input: Input,

@@ -21,7 +21,7 @@ pub const LONGEST: usize = 65536;
 // The longest that one step prints is below this many bytes.
 const ROOM: usize = 128;
 
-#[derive(Drop)]
+#[derive(Clone, Copy)]
 pub enum State {
     // More may be listed, and there is no room for it.
     Going,
@@ -34,7 +34,7 @@ pub enum State {
 }
 
 // How far a listing is.
-#[derive(Drop)]
+#[derive(Clone, Copy)]
 pub struct Progress {
     // The place in the window behind the last frame listed, and the same place in the capture.
     pub from: usize,

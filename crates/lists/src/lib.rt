@@ -1,4 +1,6 @@
 // Lists, read and written: a count, then each element in turn.
+#![tactic(auto)]
+
 
 mod list;
 

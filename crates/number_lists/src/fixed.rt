@@ -12,7 +12,7 @@ use byte_strings::Stop;
 use protocol::refusal;
 use wire::Width;
 
-#[derive(Drop)]
+#[derive(Clone, Copy)]
 pub enum Fixed {
     End(usize),
     // Where the first one begins that is not all there.

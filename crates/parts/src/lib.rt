@@ -1,4 +1,6 @@
 // Parts of the caller's bytes (01: text, a message or a property "comes back as a part of the caller's own bytes").
+#![tactic(auto)]
+
 ghost use Rattle.std.specs.Prelude.{◌≡◌};
 ghost use Rattle.parts.specs.Parts.{nullable_part, part_at};
 

@@ -4,7 +4,7 @@ use crate::offset::OffsetSpecification;
 use crate::place::{Elements, NullablePlace, Place};
 use crate::response_code::ResponseCode;
 
-#[derive(Drop)]
+#[derive(Clone, Copy)]
 pub enum Frame {
     DeclarePublisher {
         correlation_id: u32,

@@ -7,7 +7,7 @@ use crate::field;
 use wire::Width;
 
 // A kind of field.
-#[derive(Drop)]
+#[derive(Clone, Copy)]
 pub enum FieldKind {
     Nothing,
     // A number that fills its bytes.
@@ -23,7 +23,7 @@ pub enum FieldKind {
 }
 
 // A byte string's form: text T, a reference R (text of at most 256 bytes), or bytes B.
-#[derive(Drop)]
+#[derive(Clone, Copy)]
 pub enum Form {
     Text,
     Reference,
@@ -31,7 +31,7 @@ pub enum Form {
 }
 
 // What a list's elements are, by the row that 01 writes in brackets.
-#[derive(Drop)]
+#[derive(Clone, Copy)]
 pub enum Element {
     // [u64 B] of Publish
     Message,
@@ -58,26 +58,26 @@ pub enum Element {
 }
 
 // What a list admits.
-#[derive(Drop)]
+#[derive(Clone, Copy)]
 pub struct ListRule {
     pub keys: Keys,
     pub presence: Presence,
 }
 
 // Whether two elements of a list may have the same key.
-#[derive(Drop)]
+#[derive(Clone, Copy)]
 pub enum Keys {
     MayRepeat,
 }
 
 // Whether a list may be left out at the frame's end.
-#[derive(Drop)]
+#[derive(Clone, Copy)]
 pub enum Presence {
     Required,
 }
 
 // A kind of list: its elements, and its rule.
-#[derive(Drop)]
+#[derive(Clone, Copy)]
 pub struct ListKind {
     pub element: Element,
     pub rule: ListRule,

@@ -12,7 +12,7 @@ use crate::field::{
 
 // What a key has: no layout, one for version 1, or one for version 1 and one for version 2. A layout is its fields in wire
 // order, with NONE behind the last. No layout has more than six.
-#[derive(Drop)]
+#[derive(Clone, Copy)]
 pub struct Listed {
     pub versions: u8,
     pub first: [u8; 6],
@@ -20,7 +20,7 @@ pub struct Listed {
 }
 
 // What a key and a version pick.
-#[derive(Drop)]
+#[derive(Clone, Copy)]
 pub enum Decided {
     Layout,
     UnknownKey,
@@ -28,7 +28,7 @@ pub enum Decided {
 }
 
 // The decision, and the layout's fields. What is not listed has none.
-#[derive(Drop)]
+#[derive(Clone, Copy)]
 pub struct Picked {
     pub decided: Decided,
     pub fields: [u8; 6],

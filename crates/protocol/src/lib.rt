@@ -1,4 +1,6 @@
 // The protocol's vocabulary: refusal numbers, response codes, keys and their layouts, and the typed frame.
+#![tactic(auto)]
+
 mod chunk;
 mod element;
 pub mod field;

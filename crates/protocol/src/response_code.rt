@@ -2,7 +2,7 @@
 ghost use Rattle.std.specs.Prelude.{◌≡◌};
 ghost use Rattle.protocol.specs.ResponseCodes.{code_of, named_codes};
 
-#[derive(Drop)]
+#[derive(Clone, Copy)]
 pub struct ResponseCode {
     pub number: u16,
 }

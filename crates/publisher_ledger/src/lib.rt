@@ -1,5 +1,7 @@
 // The publisher ledger of one connection (01 "Ledgers"): 256 publisher ids, each closed or open with the number of messages
 // out, in an array that the host lends.
+#![tactic(auto)]
+
 ghost use Rattle.std.specs.Prelude.{◌≡◌};
 ghost use Rattle.ledger.specs.Rules.{empty, entry_at};
 ghost use Rattle.ledger.specs.Answers.{entry_of};

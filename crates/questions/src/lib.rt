@@ -1,4 +1,6 @@
 // What is asked of a frame that was read: elements of lists, messages of chunks.
+#![tactic(auto)]
+
 mod asking;
 mod messages;
 

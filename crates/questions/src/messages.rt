@@ -13,7 +13,7 @@ use parts::part;
 use protocol::{Chunk, Place, refusal};
 
 // The place that was asked for; or the refusal's number.
-#[derive(Drop)]
+#[derive(Clone, Copy)]
 pub enum AskedPlace {
     Place(Place),
     Refused(u8),

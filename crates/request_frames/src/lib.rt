@@ -1,6 +1,8 @@
 // The typed frames of slots: version 1 of the requests and commands. The fields of a case are taken in the order in which they
 // are written here, which is that of the wire. Most begin with a correlation id; the others are taken from the start. A key of
 // the range that is not listed gives a Heartbeat.
+#![tactic(auto)]
+
 ghost use Rattle.std.specs.Prelude.{◌≡◌, ◌<◌, ◌≤◌};
 ghost use Rattle.protocol.specs.Frames.{fields_of};
 ghost use Rattle.slot_taker.specs.Typed.{typed_fields};

@@ -1,4 +1,6 @@
 // The typed frames of slots: version 1 of the responses, as the requests. Most begin with a correlation id and a code.
+#![tactic(auto)]
+
 ghost use Rattle.std.specs.Prelude.{◌≡◌, ◌<◌, ◌≤◌};
 ghost use Rattle.protocol.specs.Frames.{fields_of};
 ghost use Rattle.slot_taker.specs.Typed.{typed_fields};

@@ -1,4 +1,6 @@
 // A frame's slots, filled in wire order.
+#![tactic(auto)]
+
 ghost use Rattle.std.specs.Prelude.{true, [], ◌∷◌, ◌++◌, ◌≡◌};
 ghost use Rattle.protocol.specs.Frames.{nullable_field};
 ghost use Rattle.slots.specs.Flat.{flat_header, flat_octets, flat_offset, flat_place};
@@ -9,7 +11,7 @@ use protocol::{Chunk, Elements, NullablePlace, OffsetSpecification, Place, Respo
 use slots::{flat_chunk, flat_offset, place_or_null, put_slots};
 
 // The first slots are used, and the others are 0.
-#[derive(Drop)]
+#[derive(Clone, Copy)]
 pub struct Builder {
     pub slots: [u64; 24],
     pub used: usize,

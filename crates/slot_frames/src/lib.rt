@@ -1,4 +1,6 @@
 // The typed frame of slots, by its version and its key.
+#![tactic(auto)]
+
 ghost use Rattle.std.specs.Prelude.{◌≡◌};
 ghost use Rattle.protocol.specs.Frames.{fields_of};
 ghost use Rattle.slot_taker.specs.Typed.{typed_fields, typed_frame};

@@ -8,7 +8,7 @@ ghost use Rattle.slot_questions.specs.Shapes.{kind_in};
 
 use protocol::{Element, Elements, Place, refusal};
 
-#[derive(Drop)]
+#[derive(Clone, Copy)]
 pub enum Shape {
     Kind(Element),
     Unknown,

@@ -1,4 +1,6 @@
 // Fields read into their slots: each kind of field by a reader of its own.
+#![tactic(auto)]
+
 mod reading;
 
 pub use reading::{read_content, read_element};

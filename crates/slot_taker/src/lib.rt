@@ -1,5 +1,7 @@
 // The fields of a frame, taken from its slots in wire order: at is where the slots of the next field begin, and goes past
 // them. A number is cut to its field's width; what was read fits, so nothing is cut off.
+#![tactic(auto)]
+
 ghost use Rattle.std.specs.Prelude.{true, false, cond, ◌≡◌, ◌%◌};
 ghost use Rattle.protocol.specs.Fields as F;
 ghost use Rattle.protocol.specs.Frames.{chunk_field, list_field, nullable_field};

@@ -1,4 +1,6 @@
 // Fields written from their slots: each kind of field by a writer of its own.
+#![tactic(auto)]
+
 mod chunk;
 mod writing;
 

@@ -1,4 +1,6 @@
 // A frame's fields, and an element of a list, as numbers in slots: what a host that is written in C reads and writes.
+#![tactic(auto)]
+
 mod from_slots;
 mod to_slots;
 

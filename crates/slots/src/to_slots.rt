@@ -9,7 +9,7 @@ ghost use Rattle.slots.specs.Unflat.{slots_for};
 
 use protocol::{ChunkHeader, FieldKind, NullablePlace, OffsetSpecification, Place};
 
-#[derive(Drop)]
+#[derive(Clone, Copy)]
 pub struct FlatOffset {
     pub kind: u64,
     pub value: u64,

@@ -1,6 +1,8 @@
 // Asks a chunk reader five times over a chunk, and over the same chunk with one thing changed, and prints what it says:
 // the size of a message, "done", or "refused" and the number. The file `stdout` has what a reader written in Python
 // from the paper says of the same bytes.
+#![tactic(auto)]
+
 ghost use Rattle.std.specs.Prelude.{◌≡◌, ◌<◌, set};
 
 use chunk_reader::Found;

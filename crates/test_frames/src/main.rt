@@ -1,6 +1,8 @@
 // Reads vectors on standard input, one a line: a name, a frame limit in decimal, a frame's bytes in hexadecimal. Prints
 // what `frame_reading::read` answers to each. The file `stdout` has what a reader in Python answers, which shares nothing with
 // the code here: tests/vectors/expected.py, which also writes `stdin`.
+#![tactic(auto)]
+
 mod answer;
 mod line;
 

@@ -5,6 +5,8 @@
 //
 // `credit` and `out` ask for an id's state. The files `stdin` and `stdout` hold stories: the marked cases M and N, and
 // faults that a ledger could have.
+#![tactic(auto)]
+
 mod answers;
 mod calls;
 mod script;

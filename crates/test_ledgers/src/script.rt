@@ -4,7 +4,7 @@ ghost use Rattle.test_ledgers.specs.Words.{word_of, first_word, after_space};
 
 use wire::{Number, Width};
 
-#[derive(Drop)]
+#[derive(Clone, Copy)]
 pub enum Word {
     Open,
     Grant,

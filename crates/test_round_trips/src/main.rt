@@ -1,6 +1,8 @@
 // Reads every frame of the sample captures, writes it, compares the bytes and reads what was written. A line
 // for each capture: the frames that came back as they were, the bytes they take, and the bytes left behind them. In a
 // server's capture those begin with the first frame that the rules refuse, and in the last one with the frame that is cut.
+#![tactic(auto)]
+
 mod trip;
 
 fn main() {

@@ -1,4 +1,6 @@
 // The text of the test programs: words and numbers on standard output, and the digits of their inputs.
+#![tactic(auto)]
+
 mod digits;
 mod output;
 

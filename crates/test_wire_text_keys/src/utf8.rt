@@ -4,7 +4,7 @@ ghost use Rattle.test_wire_text_keys.specs.Texts.{edge, passes, accepted};
 
 const EDGES: [u8; 10] = [0x00, 0x7f, 0x80, 0x8f, 0x90, 0x9f, 0xa0, 0xbf, 0xc0, 0xff];
 
-#[derive(Drop)]
+#[derive(Clone, Copy)]
 struct Accepted {
     count: u64,
     sum: u64,

@@ -1,4 +1,6 @@
 // Typed frames: reading and writing, by way of their slots.
+#![tactic(auto)]
+
 mod reading;
 mod writing;
 

@@ -7,7 +7,7 @@ use frame_reading::FrameRead;
 use protocol::Frame;
 use slot_frames::frame_of;
 
-#[derive(Drop)]
+#[derive(Clone, Copy)]
 pub enum Reading {
     Frame(Frame),
     // Refusal 1: how many bytes the frame needs.

@@ -1,4 +1,6 @@
 // A frame's slots: key, version, then the fields of its content in wire order.
+#![tactic(auto)]
+
 ghost use Rattle.std.specs.Prelude.{cond, ◌≡◌};
 ghost use Rattle.protocol.specs.Frames.{fields_of};
 ghost use Rattle.slots.specs.Flat.{flat_frame};

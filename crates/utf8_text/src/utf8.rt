@@ -4,7 +4,7 @@ ghost use Rattle.utf8_text.specs.Utf8.{utf8, ascii, first, next, expects};
 
 // What has to follow in a character that has begun: `left` bytes, the first of them from `low` to `high`, the others
 // tail bytes. `left` is 0 between two characters, and WRONG once nothing can make the text right.
-#[derive(Drop)]
+#[derive(Clone, Copy)]
 pub struct Pending {
     pub left: u8,
     pub low: u8,

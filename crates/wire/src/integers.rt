@@ -6,7 +6,7 @@ ghost use Rattle.wire.specs.Buffer.{splice, put, holds};
 use crate::room::has_room;
 
 // How many bytes an integer takes.
-#[derive(Drop)]
+#[derive(Clone, Copy)]
 pub enum Width {
     One,
     Two,
@@ -16,7 +16,7 @@ pub enum Width {
 }
 
 // What stands at a place: a number, or nothing, where the slice ends before the number does.
-#[derive(Drop)]
+#[derive(Clone, Copy)]
 pub enum Number {
     Value(u64),
     Cut,

@@ -1,5 +1,7 @@
 // The primitives of the wire: big-endian integers, signed integers, and bytes put into a lent buffer.
 // No public function here has a `requires`: each answers for any slice, any place and any number.
+#![tactic(auto)]
+
 mod buffer;
 mod integers;
 mod room;
