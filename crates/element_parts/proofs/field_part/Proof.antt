@@ -15,10 +15,10 @@ field_part_spec =
     (tie.spec
     (λ c κs. search rules)
     (λ c. search rules)
-    (λ c. refused_part (element_row c.before.before.before.before.before.args.kind) _ _ _ _ _ _ c.before.before.element.ensures.0 c.before.if1.true)
+    (λ c. refused_part (element_row c.before.before.before.before.args.kind) _ _ _ _ _ _ c.before.before.element.ensures.0 c.before.if1.true)
     (λ c κs. search rules)
     (λ c κs. search rules)
     (λ c.
     let e = c.before.before.before in
     let a = e.before.before.before.args in
-    shown_part (element_row a.kind) a.s.now a.list.count a.list.place a.index a.field _ e.element.ensures.0 (λ i. omega (arith, e.before.before.shared-slice-known.given i)) (omega arith) c.before.before.if1.false _ _ _ e.element.ensures.1 (c.part.ensures ∙ c.before.IsPlace-in.ensures a.s.now (omega arith))))
+    shown_part (element_row a.kind) a.s.now a.list.count a.list.place a.index a.field _ e.element.ensures.0 (λ i. omega (arith, e.before.before.shared_slice_known-1.given i)) (omega arith) c.before.before.if-element-ne0.false _ _ _ e.element.ensures.1 (c.part.ensures ∙ c.before.place_in.ensures a.s.now (omega arith))))

@@ -10,11 +10,11 @@ number_spec =
     tie.close
     (tie.spec
     (λ c. search rules)
-    (λ c κs. omega (arith, rw c.enum_told.given.1 at c.before.before.before.requires))
+    (λ c κs. omega (arith, rw c.in-Eight.is at c.before.before.requires))
     (λ c. search rules)
     (λ c. search rules)
-    (λ c κs. omega (arith, rw c.before.enum_told.given.1 at c.before.before.before.before.requires))
+    (λ c κs. omega (arith, rw c.before.in-Eight.is at c.before.before.before.requires))
     (λ c. search rules)
     (λ c κs. search rules)
-    (λ c. rw (c.before.before.enum_told.given.1, c.before.part.ensures.0, c.part2.ensures.0) (join 4 4 _ _))
+    (λ c. rw (c.before.before.in-Eight.is, c.before.part.ensures.0, c.part-in-Eight.ensures.0) (join 4 4 _ _))
     (λ c. search rules))

@@ -31,5 +31,5 @@ part_spec =
     (λ c κs. search rules)
     (λ c.
     let b = c.before.before in
-    let e = in_whole _ _ b.before.before.args.s.now b.before.before.args.at _ b.bytes.ensures b.before.before.requires c.number-or-zero.ensures in
-    (e, rw e ((integers (width_of b.before.before.args.width)).range _ _ (λ i. omega (arith, b.before.shared-slice-known.given i))))))
+    let e = in_whole _ _ b.before.before.args.s.now b.before.before.args.at _ b.bytes.ensures b.before.before.requires c.number_or_zero.ensures in
+    (e, rw e ((integers (width_of b.before.before.args.width)).range _ _ (λ i. omega (arith, b.before.shared_slice_known-1.given i))))))

@@ -10,4 +10,4 @@ put_spec =
     (tie.spec
     (λ c. search rules)
     (λ c. search rules)
-    (λ c. rw (encode_decode c.args.entry)))
+    (λ c. rw (encode_decode c.before.args.entry)))

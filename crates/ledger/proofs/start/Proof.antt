@@ -11,11 +11,11 @@ start_spec =
     (tie.spec
     (λ c. search rules)
     (λ c. search rules)
-    (λ c. let a = c.before.before.args in
-    start_again a.ledger.now a.id a.balance c.if1.true)
+    (λ c. let a = c.before.before.before.args in
+    start_again a.ledger.now a.id a.balance c.if-entry-ne0.true)
     (λ c. search rules)
     (λ c κs. search rules)
     (λ c. let t = c.before.before in
-    let a = t.before.before.args in
-    let p = start_new a.ledger.now a.id a.balance t.if1.false in
+    let a = t.before.before.before.args in
+    let p = start_new a.ledger.now a.id a.balance t.if-entry-ne0.false in
     (p.0, c.put.ensures ∙ p.1)))

@@ -13,5 +13,5 @@ state_spec =
     (λ c. search rules)
     (λ c. search rules)
     (λ c. search rules)
-    (λ c. sym (ap decode c.if1.true))
-    (λ c. sym (decode_open _ c.if1.false)))
+    (λ c. sym (ap decode c.if-entry-eq0.true))
+    (λ c. sym (decode_open _ c.if-entry-eq0.false)))

@@ -11,10 +11,10 @@ stop_spec =
     (tie.spec
     (λ c. search rules)
     (λ c. search rules)
-    (λ c. let a = c.before.before.args in
-    stop_closed a.ledger.now a.id c.if1.true)
+    (λ c. let a = c.before.before.before.args in
+    stop_closed a.ledger.now a.id c.if-entry-eq0.true)
     (λ c κs. search rules)
     (λ c. let t = c.before.before in
-    let a = t.before.before.args in
-    let p = stop_open a.ledger.now a.id t.if1.false in
+    let a = t.before.before.before.args in
+    let p = stop_open a.ledger.now a.id t.if-entry-eq0.false in
     (p.0, c.put.ensures ∙ p.1)))

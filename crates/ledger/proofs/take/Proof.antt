@@ -12,16 +12,16 @@ take_spec =
     (tie.spec
     (λ c. search rules)
     (λ c. search rules)
-    (λ c. let a = c.before.before.args in
-    take_closed a.ledger.now a.id a.n a.short c.if1.true)
+    (λ c. let a = c.before.before.before.args in
+    take_closed a.ledger.now a.id a.n a.short c.if-entry-eq0.true)
     (λ c. search rules)
     (λ c. let t = c.before in
-    let a = t.before.before.args in
-    take_short a.ledger.now a.id a.n a.short t.if1.false (omega (arith, c.if2.true)))
+    let a = t.before.before.before.args in
+    take_short a.ledger.now a.id a.n a.short t.if-entry-eq0.false (omega (arith, c.if-entry-n.true)))
     (λ c. search rules)
     (λ c κs. search rules)
     (λ c. let s = c.before.before in
     let t = s.before in
-    let a = t.before.before.args in
-    let p = take_fits a.ledger.now a.id a.n a.short t.if1.false (omega (arith, s.if2.false)) in
+    let a = t.before.before.before.args in
+    let p = take_fits a.ledger.now a.id a.n a.short t.if-entry-eq0.false (omega (arith, s.if-entry-n.false)) in
     (p.0, c.put.ensures ∙ p.1)))

@@ -12,4 +12,4 @@ nullable_part_spec =
     (λ c. search rules)
     (λ c κs. search rules)
     (λ c. search rules)
-    (λ c. rw c.before.before.p.given.1 c.part.ensures))
+    (λ c. rw c.before.in-At.is c.part.ensures))

@@ -16,14 +16,14 @@ part_spec =
     (λ c.
     let inside = c.before in
     let start = inside.before.before.before in
-    omega (arith, ends_inside start.args.s.now start.args.p _ inside.before.is-outside.ensures inside.if1.false))
+    omega (arith, ends_inside start.args.s.now start.args.p _ inside.before.is_outside.ensures inside.if-is_outside.false))
     (λ c. search rules)
     (λ c. search rules)
     (λ c.
     let inside = c.before in
     let start = inside.before.before.before in
-    ends_inside start.args.s.now start.args.p _ inside.before.is-outside.ensures inside.if1.false)
+    ends_inside start.args.s.now start.args.p _ inside.before.is_outside.ensures inside.if-is_outside.false)
     (λ c.
     let inside = c.before.before in
     let start = inside.before.before.before in
-    rw (sym inside.before.is-outside.ensures ∙ inside.if1.false) (lent start.args.s.now start.args.p.at start.args.p.len)))
+    rw (sym inside.before.is_outside.ensures ∙ inside.if-is_outside.false) (lent start.args.s.now start.args.p.at start.args.p.len)))

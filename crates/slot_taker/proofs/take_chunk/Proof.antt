@@ -13,5 +13,5 @@ take_chunk_spec =
     (λ c κs. search rules)
     (λ c.
     let a = c.before.before.before.before.before.args in
-    let header = c.before.before.take-header.ensures in
-    header_and_place (drop a.at.now a.slots.now) _ _ _ _ header.0 c.take-place.ensures.0 header.1 c.take-place.ensures.1))
+    let header = c.before.before.take_header-header.ensures in
+    header_and_place (drop a.at.now a.slots.now) _ _ _ _ header.0 c.take_place-data.ensures.0 header.1 c.take_place-data.ensures.1))

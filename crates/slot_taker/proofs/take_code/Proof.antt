@@ -11,4 +11,4 @@ take_code_spec =
     (tie.spec
     (λ c κs. search rules)
     (λ c κs. search rules)
-    (λ c. (ap (λ (r : ResponseCode). r.number) c.from-number.ensures ∙ c.before.take-u16.ensures.0, c.before.take-u16.ensures.1)))
+    (λ c. (ap (λ (r : ResponseCode). r.number) c.from_number.ensures ∙ c.before.take_u16.ensures.0, c.before.take_u16.ensures.1)))

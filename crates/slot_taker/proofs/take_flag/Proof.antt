@@ -21,4 +21,4 @@ take_flag_spec =
     tie.close
     (tie.spec
     (λ c κs. search rules)
-    (λ c. (one_bit _ ∙ ap (λ (x : ℕ). x % 2) c.take-u64.ensures.0, c.take-u64.ensures.1)))
+    (λ c. (one_bit _ ∙ ap (λ (x : ℕ). x % 2) c.take_u64.ensures.0, c.take_u64.ensures.1)))

@@ -16,5 +16,5 @@ take_list_spec =
     (λ c κs. search rules)
     (λ c.
     let a = c.before.before.before.before.before.before.before.before.args in
-    let t = three_taken (drop a.at.now a.slots.now) _ _ _ _ _ _ c.before.before.before.before.before.take-u64.ensures c.before.before.before.take-u642.ensures c.before.take-u643.ensures in
+    let t = three_taken (drop a.at.now a.slots.now) _ _ _ _ _ _ c.before.before.before.before.before.take_u64.ensures c.before.before.before.take_u64-2.ensures c.before.take_u64-3.ensures in
     (rw (c.list_of.ensures, t.0, t.1, t.2) refl, t.3)))

@@ -15,5 +15,5 @@ take_nullable_spec =
     (λ c κs. search rules)
     (λ c.
     let a = c.before.before.before.before.before.before.args in
-    let t = two_taken (drop a.at.now a.slots.now) _ _ _ _ c.before.before.before.take-u64.ensures c.before.take-u642.ensures in
-    (rw (c.nullable-of.ensures, t.0, t.1) refl, t.2)))
+    let t = two_taken (drop a.at.now a.slots.now) _ _ _ _ c.before.before.before.take_u64.ensures c.before.take_u64-2.ensures in
+    (rw (c.nullable_of.ensures, t.0, t.1) refl, t.2)))

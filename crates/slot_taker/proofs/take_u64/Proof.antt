@@ -8,7 +8,7 @@ pub take_u64_spec : {M : Type 1} → statement M
 take_u64_spec =
     tie.close
     (tie.spec
-    (λ c. past_last c.before.before.args.slots.now c.before.before.args.at.now c.if1.true)
+    (λ c. past_last c.before.before.args.slots.now c.before.before.args.at.now c.if-slots-i.true)
     (λ c. search rules)
     (λ c. search rules)
     (λ c. search rules)

@@ -11,11 +11,11 @@ use Rattle.byte_strings.proofs.StringFields.{passes}
 use Rattle.byte_strings.proofs.ends.after_string.Statement.{statement}
 use Rattle.byte_strings.proofs.ends.after_string.Tie as tie
 
-wide : (c : tie.After-bytes) → c.bytes.result ≡ length_width c.before.before.before.args.form
-wide c = rw c.bytes.ensures c.before.length-width.ensures
+wide : (c : tie.After-bytes-n) → c.bytes-n.result ≡ length_width c.before.before.before.args.form
+wide c = rw c.bytes-n.ensures c.before.length_width-width.ensures
 
-there : (c : tie.Else1) → let a = c.before.before.before.before.before.args in a.at + length_width a.form ≤ length a.s.now
-there c = rw (← wide c.before.before) (room _ _ _ c.before.has_room.ensures c.if1.false)
+there : (c : tie.Else-not-has_room) → let a = c.before.before.before.before.before.args in a.at + length_width a.form ≤ length a.s.now
+there c = rw (← wide c.before.before) (room _ _ _ c.before.has_room.ensures c.if-not-has_room.false-raw)
 
 pub after_string_spec : {M : Type 1} → statement M
 after_string_spec =
@@ -24,10 +24,10 @@ after_string_spec =
     (λ c κs. search rules)
     (λ c κs. search rules)
     (λ c κs. search rules)
-    (λ c. string_no_length _ _ _ (rw (← wide c.before.before) (no_room _ _ _ c.before.has_room.ensures c.if1.true)))
+    (λ c. string_no_length _ _ _ (rw (← wide c.before.before) (no_room _ _ _ c.before.has_room.ensures c.if-not-has_room.true-raw)))
     (λ c. omega (arith, there c, wide c.before.before))
     (λ c κs. search rules)
     (λ c κs. search rules)
-    (λ c. let l = c.before.before.before in string_none _ _ _ (there l) _ (rw l.before.before.before.length-width.ensures at c.before.before.number-or-zero.ensures) _ (rw (wide l.before.before) at c.before.is-string.ensures) c.if2.true)
-    (λ c. let l = c.before.before.before in let a = l.before.before.before.before.before.args in omega (arith, (passes a.form a.s.now (a.at + l.before.before.bytes.result) c.before.before.number-or-zero.result _ c.before.is-string.ensures c.if2.false).inside))
-    (λ c. let l = c.before.before.before in rw (wide l.before.before) (string_end _ _ _ (there l) _ (rw l.before.before.before.length-width.ensures at c.before.before.number-or-zero.ensures) _ (rw (wide l.before.before) at c.before.is-string.ensures) c.if2.false)))
+    (λ c. let l = c.before.before.before in string_none _ _ _ (there l) _ (rw l.before.before.before.length_width-width.ensures at c.before.before.number_or_zero-len.ensures) _ (rw (wide l.before.before) at c.before.is_string.ensures) c.if-not-is_string.true-raw)
+    (λ c. let l = c.before.before.before in let a = l.before.before.before.before.before.args in omega (arith, (passes a.form a.s.now (a.at + l.before.before.bytes-n.result) c.before.before.number_or_zero-len.result _ c.before.is_string.ensures c.if-not-is_string.false-raw).inside))
+    (λ c. let l = c.before.before.before in rw (wide l.before.before) (string_end _ _ _ (there l) _ (rw l.before.before.before.length_width-width.ensures at c.before.before.number_or_zero-len.ensures) _ (rw (wide l.before.before) at c.before.is_string.ensures) c.if-not-is_string.false-raw)))

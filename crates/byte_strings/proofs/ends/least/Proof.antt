@@ -4,4 +4,4 @@ use Rattle.byte_strings.proofs.ends.least.Statement.{statement}
 use Rattle.byte_strings.proofs.ends.least.Tie as tie
 
 pub least_spec : {M : Type 1} → statement M
-least_spec = tie.close (tie.spec (λ c. rw (lt-ltb _ _ c.if1.true)) (λ c. rw (le-ltb _ _ c.if1.false)))
+least_spec = tie.close (tie.spec (λ c. rw (lt-ltb _ _ c.if-a-b.true)) (λ c. rw (le-ltb _ _ c.if-a-b.false)))

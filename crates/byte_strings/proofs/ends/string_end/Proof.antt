@@ -13,21 +13,21 @@ use Rattle.byte_strings.proofs.StringFields.{admitted, length_cut, string_null, 
 use Rattle.byte_strings.proofs.ends.string_end.Statement.{statement}
 use Rattle.byte_strings.proofs.ends.string_end.Tie as tie
 
-wide : (c : tie.After-bytes) → c.bytes.result ≡ length_width c.before.before.before.args.form
-wide c = rw c.bytes.ensures c.before.length-width.ensures
+wide : (c : tie.After-bytes-n) → c.bytes-n.result ≡ length_width c.before.before.before.args.form
+wide c = rw c.bytes-n.ensures c.before.length_width-width.ensures
 
-cut : (c : tie.Then1) → let a = c.before.before.before.before.before.args in length a.s.now < a.at + length_width a.form
-cut c = rw (← wide c.before.before) (no_room _ _ _ c.before.has_room.ensures c.if1.true)
+cut : (c : tie.Then-not-has_room) → let a = c.before.before.before.before.before.args in length a.s.now < a.at + length_width a.form
+cut c = rw (← wide c.before.before) (no_room _ _ _ c.before.has_room.ensures c.if-not-has_room.true-raw)
 
-there : (c : tie.Else1) → let a = c.before.before.before.before.before.args in a.at + length_width a.form ≤ length a.s.now
-there c = rw (← wide c.before.before) (room _ _ _ c.before.has_room.ensures c.if1.false)
+there : (c : tie.Else-not-has_room) → let a = c.before.before.before.before.before.args in a.at + length_width a.form ≤ length a.s.now
+there c = rw (← wide c.before.before) (room _ _ _ c.before.has_room.ensures c.if-not-has_room.false-raw)
 
-is_length : (c : tie.After-number-or-zero) → let a = c.before.before.before.before.before.before.args in c.number-or-zero.result ≡ number_or_zero (length_width a.form) a.s.now a.at
-is_length c = rw c.before.before.before.before.length-width.ensures at c.number-or-zero.ensures
+is_length : (c : tie.After-number_or_zero-len) → let a = c.before.before.before.before.before.before.args in c.number_or_zero-len.result ≡ number_or_zero (length_width a.form) a.s.now a.at
+is_length c = rw c.before.before.before.before.length_width-width.ensures at c.number_or_zero-len.ensures
 
 -- The answer of `is_null` in terms of the length.
-told : (c : tie.After-is-null) → let a = c.before.before.before.before.before.before.before.args in (t : Bool) → (a.nullable && c.is-null.result) ≡ t → (a.nullable && eqb c.before.number-or-zero.result (256 ^ length_width a.form - 1)) ≡ t
-told c t h = rw (is_length c.before, ← c.is-null.ensures) h
+told : (c : tie.After-is_null) → let a = c.before.before.before.before.before.before.before.args in (t : Bool) → (a.nullable && c.is_null.result) ≡ t → (a.nullable && eqb c.before.number_or_zero-len.result (256 ^ length_width a.form - 1)) ≡ t
+told c t h = rw (is_length c.before, ← c.is_null.ensures) h
 
 pub string_end_spec : {M : Type 1} → statement M
 unfolding Bytes
@@ -46,18 +46,18 @@ string_end_spec =
     (λ c.
     let i = c.before.before in
     let l = i.before.before in
-    rw (string_null _ _ _ (there l) _ (is_length i.before) _ (told i true c.before.if2.true)) (rw (wide l.before.before) at c.after.ensures))
+    rw (string_null _ _ _ (there l) _ (is_length i.before) _ (told i true c.before.if-nullable-is_null.true)) (rw (wide l.before.before) at c.after.ensures))
     (λ c κs. search rules)
     (λ c κs. search rules)
     (λ c.
     let r = c.before.before in
     let i = r.before.before in
     let l = i.before.before in
-    rw (string_refused _ _ _ (there l) _ (is_length i.before) _ (λ k. omega (arith, l.before.before.before.before.shared-slice-known.given k)) (told i false r.before.if2.false) _ (rw (wide l.before.before) at r.string-refusal.ensures) c.before.if3.true) c.refuse2.ensures)
-    (λ c. let r = c.before in omega (arith, (admitted _ _ _ _ (sym r.string-refusal.ensures ∙ c.if3.false)).inside))
+    rw (string_refused _ _ _ (there l) _ (is_length i.before) _ (λ k. omega (arith, l.before.before.before.before.shared_slice_known-1.given k)) (told i false r.before.if-nullable-is_null.false) _ (rw (wide l.before.before) at r.string_refusal-number.ensures) c.before.if-number-ne0.true) c.refuse-then-number-ne0.ensures)
+    (λ c. let r = c.before in omega (arith, (admitted _ _ _ _ (sym r.string_refusal-number.ensures ∙ c.if-number-ne0.false)).inside))
     (λ c κs. search rules)
     (λ c.
     let r = c.before.before in
     let i = r.before.before in
     let l = i.before.before in
-    rw (string_found _ _ _ (there l) _ (is_length i.before) _ (λ k. omega (arith, l.before.before.before.before.shared-slice-known.given k)) (told i false r.before.if2.false) _ (rw (wide l.before.before) at r.string-refusal.ensures) c.before.if3.false) (rw (wide l.before.before) at c.after2.ensures)))
+    rw (string_found _ _ _ (there l) _ (is_length i.before) _ (λ k. omega (arith, l.before.before.before.before.shared_slice_known-1.given k)) (told i false r.before.if-nullable-is_null.false) _ (rw (wide l.before.before) at r.string_refusal-number.ensures) c.before.if-number-ne0.false) (rw (wide l.before.before) at c.after-2.ensures)))

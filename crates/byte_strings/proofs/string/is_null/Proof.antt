@@ -10,4 +10,4 @@ is_null_spec =
     (λ c κs. search rules)
     (λ c κs. search rules)
     (λ c κs. search rules)
-    (λ c. rw (c.minus_one.ensures, c.before.number-or-zero.ensures, c.before.before.length-width.ensures)))
+    (λ c. rw (c.minus_one.ensures, c.before.number_or_zero.ensures, c.before.before.length_width.ensures)))

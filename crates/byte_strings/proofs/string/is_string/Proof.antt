@@ -22,16 +22,16 @@ is_string_spec =
     (λ c κs. search rules)
     (λ c.
     let a = c.before.before.before.args in
-    let refused = length_refused a.form a.s.now a.at a.len _ c.before.length-refusal.ensures c.if1.true in
-    sym (ne_eqb _ 0 (λ z. c.if1.true (refused ∙ z))))
+    let refused = length_refused a.form a.s.now a.at a.len _ c.before.length_refusal.ensures c.if-length_refusal-ne0.true in
+    sym (ne_eqb _ 0 (λ z. c.if-length_refusal-ne0.true (refused ∙ z))))
     (λ c κs. search rules)
     (λ c.
     let length = c.before.before in
     let a = length.before.before.before.args in
-    ap (λ (x : ℕ). eqb x 0) (place_refused a.form a.s.now a.at a.len _ length.before.length-refusal.ensures length.if1.false (no_room _ _ _ c.before.has_room.ensures c.if2.true)))
-    (λ c κs. room _ _ _ c.before.has_room.ensures c.if2.false)
+    ap (λ (x : ℕ). eqb x 0) (place_refused a.form a.s.now a.at a.len _ length.before.length_refusal.ensures length.if-length_refusal-ne0.false (no_room _ _ _ c.before.has_room.ensures c.if-not-has_room.true-raw)))
+    (λ c κs. room _ _ _ c.before.has_room.ensures c.if-not-has_room.false-raw)
     (λ c.
     let there = c.before in
     let length = there.before.before in
     let a = length.before.before.before.args in
-    told _ _ (text_told a.form a.s.now a.at a.len _ length.before.length-refusal.ensures length.if1.false (room _ _ _ there.before.has_room.ensures there.if2.false) _ c.is_text.ensures)))
+    told _ _ (text_told a.form a.s.now a.at a.len _ length.before.length_refusal.ensures length.if-length_refusal-ne0.false (room _ _ _ there.before.has_room.ensures there.if-not-has_room.false-raw) _ c.is_text.ensures)))

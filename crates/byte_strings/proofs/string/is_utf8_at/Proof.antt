@@ -13,4 +13,4 @@ is_utf8_at_spec =
     (λ c. search rules)
     (λ c. search rules)
     (λ c κs. search rules)
-    (λ c. let a = c.before.before.before.args in rw (← lent a.s.now a.at a.len) c.is-utf8.ensures))
+    (λ c. let a = c.before.before.before.args in rw (← lent a.s.now a.at a.len) c.is_utf8.ensures))

@@ -10,7 +10,7 @@ length_refusal_spec =
     tie.close
     (tie.spec
     (λ c κs. search rules)
-    (λ c. let a = c.before.before.args in rw (le-leb _ _ (negative a.form _ a.len c.before.largest.ensures c.if1.true)))
+    (λ c. let a = c.before.before.args in rw (le-leb _ _ (negative a.form _ a.len c.before.largest.ensures c.if-largest-len.true)))
     (λ c κs. search rules)
-    (λ c. let l = c.before.before in let a = l.before.before.args in rw (lt-leb _ _ (not_negative a.form _ a.len l.before.largest.ensures l.if1.false), ← c.before.too_long.ensures, c.if2.true))
-    (λ c. let l = c.before.before in let a = l.before.before.args in rw (lt-leb _ _ (not_negative a.form _ a.len l.before.largest.ensures l.if1.false), ← c.before.too_long.ensures, c.if2.false)))
+    (λ c. let l = c.before.before in let a = l.before.before.args in rw (lt-leb _ _ (not_negative a.form _ a.len l.before.largest.ensures l.if-largest-len.false), ← c.before.too_long.ensures, c.if-too_long.true))
+    (λ c. let l = c.before.before in let a = l.before.before.args in rw (lt-leb _ _ (not_negative a.form _ a.len l.before.largest.ensures l.if-largest-len.false), ← c.before.too_long.ensures, c.if-too_long.false)))

@@ -4,4 +4,4 @@ use Rattle.chunk_reader.proofs.spot.fewer.Statement.{statement}
 use Rattle.chunk_reader.proofs.spot.fewer.Tie as tie
 
 pub fewer_spec : {M : Type 1} → statement M
-fewer_spec = tie.close (tie.spec (λ c. rw (lt-ltb _ _ c.if1.true)) (λ c. rw (le-ltb _ _ c.if1.false)))
+fewer_spec = tie.close (tie.spec (λ c. rw (lt-ltb _ _ c.if-a-b.true)) (λ c. rw (le-ltb _ _ c.if-a-b.false)))

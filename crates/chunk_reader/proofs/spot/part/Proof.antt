@@ -12,4 +12,4 @@ part_spec =
     (tie.spec
     (λ c κs. search rules)
     (λ c κs. search rules)
-    (λ c. let a = c.before.before.before.args in c.part.ensures ∙ ap (part_at a.s.now) c.before.IsPlace-in.ensures ∙ message_part_lem a.s.now a.p.found))
+    (λ c. let a = c.before.before.before.args in c.part.ensures ∙ ap (part_at a.s.now) c.before.place_in.ensures ∙ message_part_lem a.s.now a.p.found))

@@ -9,6 +9,6 @@ start_spec =
     tie.close
     (tie.spec
     (λ c κs. search rules)
-    (λ c. starts_refused _ _ c.before.chunk-end.ensures c.if1.true)
+    (λ c. starts_refused _ _ c.before.chunk_end-end.ensures c.if-number-ne0.true)
     (λ c κs. search rules)
-    (λ c. starts_ready _ _ c.before.before.chunk-end.ensures _ c.before.if1.false c.entry-count.ensures))
+    (λ c. starts_ready _ _ c.before.before.chunk_end-end.ensures _ c.before.if-number-ne0.false c.entry_count.ensures))

@@ -13,6 +13,6 @@ chunk_end_spec =
     (tie.spec
     (λ c κs. search rules)
     (λ c κs. search rules)
-    (λ c. c.refuse.ensures ∙ header_cut _ _ (no_room _ _ _ c.before.before.has_room.ensures c.before.if1.true))
-    (λ c κs. room _ _ _ c.before.has_room.ensures c.if1.false)
-    (λ c. c.data-end.ensures ∙ sym (ap stop (header_there _ _ (room _ _ _ c.before.before.has_room.ensures c.before.if1.false)))))
+    (λ c. c.refuse.ensures ∙ header_cut _ _ (no_room _ _ _ c.before.before.has_room.ensures c.before.if-not-has_room.true-raw))
+    (λ c κs. room _ _ _ c.before.has_room.ensures c.if-not-has_room.false-raw)
+    (λ c. c.data_end.ensures ∙ sym (ap stop (header_there _ _ (room _ _ _ c.before.before.has_room.ensures c.before.if-not-has_room.false-raw)))))

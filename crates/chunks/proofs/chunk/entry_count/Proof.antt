@@ -11,6 +11,6 @@ entry_count_spec =
     (tie.spec
     (λ c κs. search rules)
     (λ c κs. search rules)
-    (λ c. closed _ _ _ c.before.before.number-or-zero.ensures (c.before.has-entries.ensures 0) c.if1.true)
+    (λ c. closed _ _ _ c.before.before.number_or_zero-kind.ensures (c.before.has_entries.ensures 0) c.if-not-has_entries.true-raw)
     (λ c κs. search rules)
-    (λ c. c.number-or-zero2.ensures ∙ opened _ _ _ c.before.before.before.number-or-zero.ensures (c.before.before.has-entries.ensures 0) c.before.if1.false))
+    (λ c. c.number_or_zero.ensures ∙ opened _ _ _ c.before.before.before.number_or_zero-kind.ensures (c.before.before.has_entries.ensures 0) c.before.if-not-has_entries.false-raw))

@@ -10,10 +10,10 @@ use borrow.Author.Rules.{rules}
 use Rattle.chunks.proofs.entry.after_entries.Statement.{statement}
 use Rattle.chunks.proofs.entry.after_entries.Tie as tie
 
-abbrev invariant_loop : tie.invariant_loop
+abbrev invariant_loop : tie.invariant-loop-left
 invariant_loop s start count at₀ left₀ at left = end_of (repeated read_entry left s at) ≡ end_of (repeated read_entry count s start)
 
-abbrev decreases_loop : tie.decreases_loop
+abbrev decreases_loop : tie.decreases-loop-left
 decreases_loop s start count at₀ left₀ at left = left
 
 pub after_entries_spec : {M : Type 1} → statement M
@@ -24,8 +24,8 @@ after_entries_spec =
     decreases_loop
     (λ c. refl)
     (λ c κs. search rules)
-    (λ c. let l = c.before.before.before.loop in rw (stops_plain read_entry _ (λ from. bounded_entry _ from) l.left _ _ c.before.before.loop-test.true (entry_end _ _ _ c.before.after-bytes.ensures) c.if1.true) l.invariant)
+    (λ c. let l = c.before.before.before.loop-left in rw (stops_plain read_entry _ (λ from. bounded_entry _ from) l.left _ _ c.before.before.loop-left-test.true (entry_end _ _ _ c.before.after_bytes-end.ensures) c.if-end-eq0.true) l.invariant)
     (λ c. search rules)
     (λ c. search rules)
-    (λ c. let l = c.before.before.before.loop in turns_plain read_entry _ l.left _ _ c.before.before.loop-test.true (entry_end _ _ _ c.before.after-bytes.ensures) c.if1.false ∙ l.invariant)
-    (λ c. let l = c.before.loop in none_left_plain read_entry _ l.left _ c.loop-test.false ∙ l.invariant))
+    (λ c. let l = c.before.before.before.loop-left in turns_plain read_entry _ l.left _ _ c.before.before.loop-left-test.true (entry_end _ _ _ c.before.after_bytes-end.ensures) c.if-end-eq0.false ∙ l.invariant)
+    (λ c. let l = c.before.loop-left in none_left_plain read_entry _ l.left _ c.loop-left-test.false ∙ l.invariant))

@@ -15,4 +15,4 @@ entries_end_spec =
     (λ c κs. search rules)
     (λ c. search rules)
     (λ c κs. search rules)
-    (λ c. c.after.ensures ∙ stop_ended (repeated read_entry _ _ _) _ c.before.before.after-entries.ensures c.before.if1.false))
+    (λ c. c.after.ensures ∙ stop_ended (repeated read_entry _ _ _) _ c.before.before.after_entries-end.ensures c.before.if-end-eq0.false))

@@ -10,9 +10,9 @@ entries_of_spec =
     tie.close
     (tie.spec
     (λ c κs. search rules)
-    (λ c. c.refuse.ensures ∙ records_differ _ _ _ _ _ c.before.if1.true)
+    (λ c. c.refuse.ensures ∙ records_differ _ _ _ _ _ c.before.if-records-entries.true)
     (λ c κs. search rules)
-    (λ c. let e = c.before.before in entries_refused _ _ _ _ _ e.before.if1.false _ e.entries-end.ensures c.if2.true)
+    (λ c. let e = c.before.before in entries_refused _ _ _ _ _ e.before.if-records-entries.false _ e.entries_end-last.ensures c.if-last-ne0.true)
     (λ c κs. search rules)
-    (λ c. let e = c.before.before.before.before in c.refuse2.ensures ∙ entries_left _ _ _ _ _ e.before.if1.false _ e.entries-end.ensures c.before.before.if2.false c.before.if3.true)
-    (λ c. let e = c.before.before.before in entries_used _ _ _ _ _ e.before.if1.false _ e.entries-end.ensures c.before.if2.false c.if3.false))
+    (λ c. let e = c.before.before.before.before in c.refuse-then-at-s.ensures ∙ entries_left _ _ _ _ _ e.before.if-records-entries.false _ e.entries_end-last.ensures c.before.before.if-last-ne0.false c.before.if-at-s.true)
+    (λ c. let e = c.before.before.before in entries_used _ _ _ _ _ e.before.if-records-entries.false _ e.entries_end-last.ensures c.before.if-last-ne0.false c.if-at-s.false))

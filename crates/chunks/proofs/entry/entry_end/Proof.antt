@@ -9,8 +9,8 @@ use borrow.Author.Rules.{rules}
 use Rattle.chunks.proofs.entry.entry_end.Statement.{statement}
 use Rattle.chunks.proofs.entry.entry_end.Tie as tie
 
-there : (c : tie.Else1) → let a = c.before.before.before.args in a.at + 4 ≤ length a.s.now
-there c = room _ _ _ c.before.has_room.ensures c.if1.false
+there : (c : tie.Else-not-has_room) → let a = c.before.before.before.args in a.at + 4 ≤ length a.s.now
+there c = room _ _ _ c.before.has_room.ensures c.if-not-has_room.false-raw
 
 pub entry_end_spec : {M : Type 1} → statement M
 entry_end_spec =
@@ -18,14 +18,14 @@ entry_end_spec =
     (tie.spec
     (λ c κs. search rules)
     (λ c κs. search rules)
-    (λ c. c.refuse.ensures ∙ entry_cut _ _ (no_room _ _ _ c.before.before.has_room.ensures c.before.if1.true))
+    (λ c. c.refuse.ensures ∙ entry_cut _ _ (no_room _ _ _ c.before.before.has_room.ensures c.before.if-not-has_room.true-raw))
     (λ c. omega (arith, there c))
     (λ c κs. search rules)
     (λ c κs. search rules)
-    (λ c. let n = c.before.before in c.refuse2.ensures ∙ top_bit _ _ (there n.before) _ n.number-or-zero.ensures c.before.if2.true)
+    (λ c. let n = c.before.before in c.refuse-then-size-gt2147483647.ensures ∙ top_bit _ _ (there n.before) _ n.number_or_zero-size.ensures c.before.if-size-gt2147483647.true)
     (λ c. omega (arith, there c.before.before))
     (λ c κs. search rules)
-    (λ c. let n = c.before.before.before in let h = there n.before in c.refuse3.ensures ∙ message_cut _ _ h _ n.number-or-zero.ensures c.before.before.if2.false (omega (arith, h, c.before.if3.true)))
+    (λ c. let n = c.before.before.before in let h = there n.before in c.refuse-then-s-message.ensures ∙ message_cut _ _ h _ n.number_or_zero-size.ensures c.before.before.if-size-gt2147483647.false (omega (arith, h, c.before.if-s-message.true)))
     (λ c. omega (arith, there c.before.before.before))
     (λ c κs. search rules)
-    (λ c. let n = c.before.before.before in let h = there n.before in c.after.ensures ∙ message_there _ _ h _ n.number-or-zero.ensures c.before.before.if2.false (omega (arith, h, c.before.if3.false))))
+    (λ c. let n = c.before.before.before in let h = there n.before in c.after.ensures ∙ message_there _ _ h _ n.number_or_zero-size.ensures c.before.before.if-size-gt2147483647.false (omega (arith, h, c.before.if-s-message.false))))

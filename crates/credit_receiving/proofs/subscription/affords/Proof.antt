@@ -18,6 +18,6 @@ affords_spec =
     (λ c. search rules)
     (λ c. search rules)
     (λ c. let i = c.before.before in
-    let a = i.before.before.args in
-    enough _ _ (get_or a.credits.now i.subscription.given.0.0 0) ∙ sym (ap (λ (s : Subscription). affords a.credits.now (id_of s)) i.subscription.given.1))
+    let a = i.before.args in
+    enough _ _ (get_or a.credits.now i.in-Id.id 0) ∙ sym (ap (λ (s : Subscription). affords a.credits.now (id_of s)) i.in-Id.is))
     (λ c. search rules))

@@ -14,9 +14,9 @@ spend_spec =
     (λ c κs. search rules)
     (λ c. search rules)
     (λ c.
-    let i = c.before.before.before in
-    let a = i.before.before.args in (
-      c.take.ensures.0 ∙ sym (ap (λ (s : Subscription). refusal_for a.credits.now (id_of s)) i.subscription.given.1),
-      c.take.ensures.1 ∙ sym (ap (λ (s : Subscription). spent a.credits.now (id_of s)) i.subscription.given.1),
+    let i = c.before.before in
+    let a = i.before.args in (
+      c.take.ensures.0 ∙ sym (ap (λ (s : Subscription). refusal_for a.credits.now (id_of s)) i.in-Id.is),
+      c.take.ensures.1 ∙ sym (ap (λ (s : Subscription). spent a.credits.now (id_of s)) i.in-Id.is),
     ))
     (λ c. search rules))

@@ -11,8 +11,8 @@ pub subscription_of_spec : {M : Type 1} → statement M
 subscription_of_spec =
     tie.close
     (tie.spec
-    (λ c. too_short c.before.before.args.bytes.now c.if1.true)
+    (λ c. too_short c.before.before.args.bytes.now c.if-bytes-lt9.true)
     (λ c κs. search rules)
-    (λ c. other_key c.before.before.before.before.before.args.bytes.now (λ e. c.if2.true (key_there _ _ c.before.before.head_of.ensures (omega (arith, c.before.before.before.if1.false)) ∙ e)))
+    (λ c. other_key c.before.before.before.before.before.args.bytes.now (λ e. c.if-head-ne8.true (key_there _ _ c.before.before.head_of-head.ensures (omega (arith, c.before.before.before.if-bytes-lt9.false)) ∙ e)))
     (λ c. search rules)
-    (λ c. this_key c.before.before.before.before.before.before.args.bytes.now c.before.before.before.before.if1.false (sym (key_there _ _ c.before.before.before.head_of.ensures (omega (arith, c.before.before.before.before.if1.false))) ∙ c.before.if2.false)))
+    (λ c. this_key c.before.before.before.before.before.before.args.bytes.now c.before.before.before.before.if-bytes-lt9.false (sym (key_there _ _ c.before.before.before.head_of-head.ensures (omega (arith, c.before.before.before.before.if-bytes-lt9.false))) ∙ c.before.if-head-ne8.false)))

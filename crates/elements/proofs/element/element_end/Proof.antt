@@ -9,4 +9,4 @@ element_end_spec =
     (tie.spec
     (λ c κs. search rules)
     (λ c κs. search rules)
-    (λ c. rw c.before.element-fields.ensures.1 at c.row-end.ensures))
+    (λ c. rw c.before.element_fields.ensures.1 at c.row_end.ensures))

@@ -11,18 +11,18 @@ use borrow.Author.Rules.{rules}
 use Rattle.elements.proofs.element.row_end.Statement.{statement}
 use Rattle.elements.proofs.element.row_end.Tie as tie
 
-abbrev invariant_loop : tie.invariant_loop
+abbrev invariant_loop : tie.invariant-loop-i
 invariant_loop s start fields at₀ i₀ at i =
     (i ≤ 6) × (length fields ≡ 6) × (stop (read_row (row_by element_kind (drop i fields)) s at) ≡ stop (read_row (row_by element_kind fields) s start))
 
-abbrev decreases_loop : tie.decreases_loop
+abbrev decreases_loop : tie.decreases-loop-i
 decreases_loop s start fields at₀ i₀ at i = 6 - i
 
-more : (c : tie.In-loop invariant_loop decreases_loop) → c.before.loop.i < length c.before.before.before.args.t3
-more c = let l = c.before.loop.invariant.1 in omega arith
+more : (c : tie.In-loop-i invariant_loop decreases_loop) → c.before.loop-i.i < length c.before.before.before.args.t3
+more c = let l = c.before.loop-i.invariant.1 in omega arith
 
-last : (c : tie.After-loop invariant_loop decreases_loop) → c.before.loop.i ≡ length c.before.before.before.args.t3
-last c = let l = c.before.loop.invariant.1 in omega arith
+last : (c : tie.After-loop-i invariant_loop decreases_loop) → c.before.loop-i.i ≡ length c.before.before.before.args.t3
+last c = let l = c.before.loop-i.invariant.1 in omega arith
 
 pub row_end_spec : {M : Type 1} → statement M
 row_end_spec =
@@ -33,9 +33,9 @@ row_end_spec =
     (λ c. (search rules, search rules, refl))
     (λ c. search rules)
     (λ c κs. search rules)
-    (λ c. let l = c.before.before.before.before in row_refused element_kind _ _ _ _ _ (more c.before.before.before) c.before.before.field-end.ensures c.if1.true ∙ l.loop.invariant.2)
+    (λ c. let l = c.before.before.before.before in row_refused element_kind _ _ _ _ _ (more c.before.before.before) c.before.before.field_end-end.ensures c.if-end-ne0.true ∙ l.loop-i.invariant.2)
     (λ c. search rules)
     (λ c. search rules)
-    (λ c. let l = c.before.before.before.before in (search rules, l.loop.invariant.1, row_turns element_kind _ _ _ _ _ (more c.before.before.before) c.before.before.field-end.ensures c.if1.false ∙ l.loop.invariant.2))
+    (λ c. let l = c.before.before.before.before in (search rules, l.loop-i.invariant.1, row_turns element_kind _ _ _ _ _ (more c.before.before.before) c.before.before.field_end-end.ensures c.if-end-ne0.false ∙ l.loop-i.invariant.2))
     (λ c κs. search rules)
-    (λ c. let l = c.before.before in c.after.ensures ∙ row_ended element_kind _ _ _ _ (last c.before) ∙ l.loop.invariant.2))
+    (λ c. let l = c.before.before in c.after.ensures ∙ row_ended element_kind _ _ _ _ (last c.before) ∙ l.loop-i.invariant.2))

@@ -10,10 +10,10 @@ use borrow.Author.Rules.{rules}
 use Rattle.elements.proofs.element.walked_end.Statement.{statement}
 use Rattle.elements.proofs.element.walked_end.Tie as tie
 
-abbrev invariant_loop : tie.invariant_loop
+abbrev invariant_loop : tie.invariant-loop-left
 invariant_loop s start count fields at₀ left₀ at left = stop (repeated (read_row (row_by element_kind fields)) left s at) ≡ stop (repeated (read_row (row_by element_kind fields)) count s start)
 
-abbrev decreases_loop : tie.decreases_loop
+abbrev decreases_loop : tie.decreases-loop-left
 decreases_loop s start count fields at₀ left₀ at left = left
 
 pub walked_end_spec : {M : Type 1} → statement M
@@ -27,13 +27,13 @@ walked_end_spec =
     (λ c κs. search rules)
     (λ c.
     let l = c.before.before.before.before in
-    rw (← l.before.element-fields.ensures.1) (stops_by_stop (read_row _) _ (λ from. bounded_row _ _ from) l.loop.left _ _ c.before.before.before.loop-test.true c.before.before.row-end.ensures c.if1.true ∙ l.loop.invariant))
+    rw (← l.before.element_fields-fields.ensures.1) (stops_by_stop (read_row _) _ (λ from. bounded_row _ _ from) l.loop-left.left _ _ c.before.before.before.loop-left-test.true c.before.before.row_end-end.ensures c.if-end-ne0.true ∙ l.loop-left.invariant))
     (λ c. search rules)
     (λ c. search rules)
     (λ c.
     let l = c.before.before.before.before in
-    turns_by_stop (read_row _) _ (λ from. bounded_row _ _ from) l.loop.left _ _ c.before.before.before.loop-test.true c.before.before.row-end.ensures c.if1.false ∙ l.loop.invariant)
+    turns_by_stop (read_row _) _ (λ from. bounded_row _ _ from) l.loop-left.left _ _ c.before.before.before.loop-left-test.true c.before.before.row_end-end.ensures c.if-end-ne0.false ∙ l.loop-left.invariant)
     (λ c κs. search rules)
     (λ c.
     let l = c.before.before in
-    rw (← l.before.element-fields.ensures.1) (c.after.ensures ∙ none_left (read_row _) _ l.loop.left _ c.before.loop-test.false ∙ l.loop.invariant)))
+    rw (← l.before.element_fields-fields.ensures.1) (c.after.ensures ∙ none_left (read_row _) _ l.loop-left.left _ c.before.loop-left-test.false ∙ l.loop-left.invariant)))

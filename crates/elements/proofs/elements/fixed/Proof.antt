@@ -18,12 +18,12 @@ fixed_spec =
     (λ c. search rules)
     (λ c κs. search rules)
     (λ c.
-    let f = c.before.before.before.before in
+    let f = c.before.before in
     let a = f.before.before in
-    let k = known_end _ _ _ _ _ (sym c.before.before.end.given.1 ∙ f.fixed-end.ensures) in
-    rw k.1 at c.after.ensures ∙ all_there a.args.s.now (λ i. omega (arith, f.before.shared-slice-known.given i)) a.requires.0 (λ z. omega (arith, z, a.requires.1)) a.args.at a.args.count k.0)
+    let k = known_end _ _ _ _ _ (sym c.before.in-End.is ∙ f.fixed_end.ensures) in
+    rw k.1 at c.after.ensures ∙ all_there a.args.s.now (λ i. omega (arith, f.before.shared_slice_known-1.given i)) a.requires.0 (λ z. omega (arith, z, a.requires.1)) a.args.at a.args.count k.0)
     (λ c.
-    let f = c.before.before.before.before in
+    let f = c.before.before in
     let a = f.before.before in
-    let k = known_cut _ _ _ _ _ (sym c.before.before.first.given.1 ∙ f.fixed-end.ensures) in
-    first_refused a.args.s.now (λ i. omega (arith, f.before.shared-slice-known.given i)) a.requires.0 (λ z. omega (arith, z, a.requires.1)) a.args.at a.args.count k.0 _ (rw k.1 at c.element-end.ensures)))
+    let k = known_cut _ _ _ _ _ (sym c.before.in-Cut.is ∙ f.fixed_end.ensures) in
+    first_refused a.args.s.now (λ i. omega (arith, f.before.shared_slice_known-1.given i)) a.requires.0 (λ z. omega (arith, z, a.requires.1)) a.args.at a.args.count k.0 _ (rw k.1 at c.element_end.ensures)))

@@ -9,8 +9,8 @@ use borrow.Author.Rules.{rules}
 use Rattle.elements.proofs.elements.message_end.Statement.{statement}
 use Rattle.elements.proofs.elements.message_end.Tie as tie
 
-there : (c : tie.Else1) → let a = c.before.before.before.args in a.at + 12 ≤ length a.s.now
-there c = room _ _ _ c.before.has_room.ensures c.if1.false
+there : (c : tie.Else-not-has_room) → let a = c.before.before.before.args in a.at + 12 ≤ length a.s.now
+there c = room _ _ _ c.before.has_room.ensures c.if-not-has_room.false-raw
 
 pub message_end_spec : {M : Type 1} → statement M
 unfolding Bytes
@@ -18,7 +18,7 @@ message_end_spec =
     tie.close
     (tie.spec
     (λ c κs. search rules)
-    (λ c. message_cut _ _ (λ i. omega (arith, c.before.before.shared-slice-known.given i)) (no_room _ _ _ c.before.has_room.ensures c.if1.true))
+    (λ c. message_cut _ _ (λ i. omega (arith, c.before.before.shared_slice_known-1.given i)) (no_room _ _ _ c.before.has_room.ensures c.if-not-has_room.true-raw))
     (λ c. omega (arith, there c))
     (λ c κs. search rules)
-    (λ c. let e = c.before in message_end _ _ _ (λ i. omega (arith, e.before.before.shared-slice-known.given i)) (omega (arith, there e)) c.after-bytes.ensures))
+    (λ c. let e = c.before in message_end _ _ _ (λ i. omega (arith, e.before.before.shared_slice_known-1.given i)) (omega (arith, there e)) c.after_bytes.ensures))

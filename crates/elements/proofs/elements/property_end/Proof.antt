@@ -9,6 +9,6 @@ property_end_spec =
     tie.close
     (tie.spec
     (λ c κs. search rules)
-    (λ c. property_stopped _ _ _ c.before.after_text.ensures c.if1.true)
+    (λ c. property_stopped _ _ _ c.before.after_text-key.ensures c.if-key-eq0.true)
     (λ c κs. search rules)
-    (λ c. property_end _ _ _ c.before.before.after_text.ensures _ c.before.if1.false c.after-text2.ensures))
+    (λ c. property_end _ _ _ c.before.before.after_text-key.ensures _ c.before.if-key-eq0.false c.after_text.ensures))

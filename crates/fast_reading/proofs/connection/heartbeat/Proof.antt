@@ -24,4 +24,4 @@ heartbeat_spec =
     (tie.spec
     (λ c. search rules)
     (λ c κs. search rules)
-    (λ c. rw c.first-six.ensures (no_field c.before.before.before.args.s.now c.before.before.before.args.slots.now c.before.if1.false)))
+    (λ c. rw c.first_six.ensures (no_field c.before.before.before.args.s.now c.before.before.before.args.slots.now c.before.if-s-ne0.false)))

@@ -42,4 +42,4 @@ open_spec =
     (λ c.
     let p = c.before.before.before.before in
     let a = p.before.before.args in
-    rw c.first-six.ensures (row a.s.now a.slots.now _ _ (λ i. omega (arith, p.before.shared-slice-known.given i)) p.if1.false c.before.before.before.number.ensures c.before.before.after_text.ensures c.before.if2.false)))
+    rw c.first_six.ensures (row a.s.now a.slots.now _ _ (λ i. omega (arith, p.before.shared_slice_known-1.given i)) p.if-s-lt6.false c.before.before.before.number-correlation_id.ensures c.before.before.after_text-end.ensures c.before.if-end-s.false)))

@@ -22,10 +22,10 @@ pub chunk_place_spec : {M : Type 1} → statement M
 chunk_place_spec =
     tie.close
     (tie.spec
-    (λ c. rw c.if1.true)
+    (λ c. rw c.if-version-eq0.true)
     (λ c.
     let v = c.before.before.args.version in
-    rw (ne_eqb v 1 (λ e. omega (arith, e, c.if2.true)), ne_eqb v 2 (λ e. omega (arith, e, c.if2.true))))
+    rw (ne_eqb v 1 (λ e. omega (arith, e, c.if-version-gt2.true)), ne_eqb v 2 (λ e. omega (arith, e, c.if-version-gt2.true))))
     (λ c. search rules)
-    (λ c. omega (arith, c.before.if1.false))
-    (λ c. placed _ _ c.before.if1.false c.if2.false (λ e. omega (arith, e)) (λ e. omega (arith, e))))
+    (λ c. omega (arith, c.before.if-version-eq0.false))
+    (λ c. placed _ _ c.before.if-version-eq0.false c.if-version-gt2.false (λ e. omega (arith, e)) (λ e. omega (arith, e))))

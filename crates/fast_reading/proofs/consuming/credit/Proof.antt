@@ -36,4 +36,4 @@ credit_spec =
     (λ c.
     let p = c.before.before.before.before in
     let a = p.before.args in
-    rw c.first-six.ensures (row a.s.now a.slots.now _ _ (λ i. omega (arith, p.shared-slice-known.given i)) c.before.before.before.if1.false c.before.before.number.ensures c.before.number2.ensures)))
+    rw c.first_six.ensures (row a.s.now a.slots.now _ _ (λ i. omega (arith, p.shared_slice_known-1.given i)) c.before.before.before.if-s-ne3.false c.before.before.number-subscription_id.ensures c.before.number-credit.ensures)))

@@ -94,52 +94,52 @@ module _ (s old : List ℕ) (b : Bytes s) (version at : ℕ) (p : at ≡ chunk_a
       (rw (i, j, k, m, after-header)))
 
 -- What is known where the chunk's end is: the version, where the chunk begins, and that the content is bytes.
-abbrev content : tie.After-chunk-end → List ℕ
+abbrev content : tie.After-chunk_end-end → List ℕ
 content c = c.before.before.before.before.before.args.s.now
 
-abbrev version : tie.After-chunk-end → ℕ
+abbrev version : tie.After-chunk_end-end → ℕ
 version c = c.before.before.before.before.before.args.version
 
-abbrev start : tie.After-chunk-end → ℕ
+abbrev start : tie.After-chunk_end-end → ℕ
 start c = c.before.before.before.chunk-place.result
 
-placed : (c : tie.After-chunk-end) → start c ≡ chunk_at (version c)
-placed c = c.before.before.before.chunk-place.ensures
+placed : (c : tie.After-chunk_end-end) → start c ≡ chunk_at (version c)
+placed c = c.before.before.before.chunk_place-at.ensures
 
-known : (c : tie.After-chunk-end) → Bytes (content c)
+known : (c : tie.After-chunk_end-end) → Bytes (content c)
 unfolding Bytes
-known c i = omega (arith, c.before.before.before.before.shared-slice-known.given i)
+known c i = omega (arith, c.before.before.before.before.shared_slice_known-1.given i)
 
-in_front : (c : tie.After-chunk-end) → start c ≤ length (content c)
-in_front c = omega (arith, c.before.if2.false)
+in_front : (c : tie.After-chunk_end-end) → start c ≤ length (content c)
+in_front c = omega (arith, c.before.if-s-at.false)
 
-second : (c : tie.After-chunk-end) → (version c ≡ 1 → ⊥) → version c ≡ 2
-second c n = by_version (version c) (start c) (placed c) c.before.before.if1.false (version c ≡ 2) (λ v. absurd (n v)) (λ v. v)
+second : (c : tie.After-chunk_end-end) → (version c ≡ 1 → ⊥) → version c ≡ 2
+second c n = by_version (version c) (start c) (placed c) c.before.before.if-at-eq0.false (version c ≡ 2) (λ v. absurd (n v)) (λ v. v)
 
 -- And where the chunk is not refused: the chunk; and that its header is there.
-chunk : (c : tie.Else3) → Whole (content c.before.before) (start c.before.before) c.before.before.chunk-end.result
-chunk c = whole _ _ _ c.before.before.chunk-end.ensures c.if3.false
+chunk : (c : tie.Else-end-ne0) → Whole (content c.before.before) (start c.before.before) c.before.before.chunk_end-end.result
+chunk c = whole _ _ _ c.before.before.chunk_end-end.ensures c.if-end-ne0.false
 
-header : (c : tie.Else3) → (start c.before.before + 48 ≤ length (content c.before.before)) × (start c.before.before + 48 < 0x1_0000_0000_0000_0000)
-header c = let h = c.before.before.before.if2.false in (h, omega (arith, h))
+header : (c : tie.Else-end-ne0) → (start c.before.before + 48 ≤ length (content c.before.before)) × (start c.before.before + 48 < 0x1_0000_0000_0000_0000)
+header c = let h = c.before.before.before.if-s-at.false in (h, omega (arith, h))
 
 -- That place, from after the fourth, the eighth and the twelfth number; and the place of the first, from after the last.
-abbrev from_4 : tie.After-number4 → tie.Else3
+abbrev from_4 : tie.After-number-entries → tie.Else-end-ne0
 from_4 c = c.before.before.before.before.before.before
 
-abbrev from_8 : tie.After-number8 → tie.Else3
+abbrev from_8 : tie.After-number-first_offset → tie.Else-end-ne0
 from_8 c = from_4 c.before.before.before.before
 
-abbrev from_12 : tie.After-number12 → tie.Else3
+abbrev from_12 : tie.After-number-bloom_size → tie.Else-end-ne0
 from_12 c = from_8 c.before.before.before.before.before
 
-abbrev asked_of : tie.After-number13 → tie.After-chunk-end
+abbrev asked_of : tie.After-number-reserved → tie.After-chunk_end-end
 asked_of c = (from_12 c.before).before.before
 
-abbrev first_of : tie.After-number13 → tie.After-number
+abbrev first_of : tie.After-number-reserved → tie.After-number-subscription_id
 first_of c = c.before.before.before.before.before.before.before.before.before.before.before.before.before.before.before
 
-abbrev header_of : (c : tie.After-number13) → (h : List ℕ) × (h ≡ flat_header (header_at (content (asked_of c)) (start (asked_of c))))
+abbrev header_of : (c : tie.After-number-reserved) → (h : List ℕ) × (h ≡ flat_header (header_at (content (asked_of c)) (start (asked_of c))))
 header_of c =
     let d = c.before.before.before in
     let e = d.before.before in
@@ -148,18 +148,18 @@ header_of c =
     let h = g.before.before in (
       _,
       header_slots _ (known (asked_of c)) _ _ _ _ _ _ _ _ _ _ _ _ _
-          (h.widened8.ensures ∙ ap (λ (x : ℕ). bits (signed 1 x)) h.before.number2.ensures)
-          (g.widened82.ensures ∙ ap (λ (x : ℕ). bits (signed 1 x)) g.before.number3.ensures)
-          f.number4.ensures
-          e.before.before.before.before.number5.ensures
-          e.before.before.before.number6.ensures
-          e.before.before.number7.ensures
-          e.before.number8.ensures
-          (d.before.widened32.ensures ∙ ap (λ (x : ℕ). bits (signed 4 x)) e.number9.ensures)
-          d.number10.ensures
-          c.before.before.number11.ensures
-          c.before.number12.ensures
-          c.number13.ensures,
+          (h.widened8-magic.ensures ∙ ap (λ (x : ℕ). bits (signed 1 x)) h.before.number.ensures)
+          (g.widened8-kind.ensures ∙ ap (λ (x : ℕ). bits (signed 1 x)) g.before.number-2.ensures)
+          f.number-entries.ensures
+          e.before.before.before.before.number-records.ensures
+          e.before.before.before.number-timestamp.ensures
+          e.before.before.number-epoch.ensures
+          e.before.number-first_offset.ensures
+          (d.before.widened32-checksum.ensures ∙ ap (λ (x : ℕ). bits (signed 4 x)) e.number-3.ensures)
+          d.number-data_length.ensures
+          c.before.before.number-trailer_length.ensures
+          c.before.number-bloom_size.ensures
+          c.number-reserved.ensures,
     )
 
 pub deliver_spec : {M : Type 1} → statement M
@@ -169,20 +169,20 @@ deliver_spec =
     (tie.spec
     (λ c κs. search rules)
     (λ c. search rules)
-    (λ c. let l : c.before.chunk-place.result ≤ 9 = rw c.before.chunk-place.ensures (early c.before.before.before.args.version) in search rules)
+    (λ c. let l : c.before.chunk_place-at.result ≤ 9 = rw c.before.chunk_place-at.ensures (early c.before.before.before.args.version) in search rules)
     (λ c. search rules)
     (λ c κs. search rules)
     (λ c.
     let e = c.before.before in
     let a = e.before.before.before.before.before.args in
-    refused_row a.s.now a.slots.now (known e) a.version _ (placed e) (in_front e) e.chunk-end.result e.before.before.if1.false e.chunk-end.ensures c.if3.true)
+    refused_row a.s.now a.slots.now (known e) a.version _ (placed e) (in_front e) e.chunk_end-end.result e.before.before.if-at-eq0.false e.chunk_end-end.ensures c.if-end-ne0.true)
     (λ c κs. search rules)
     (λ c κs. omega (arith, (header c.before).0))
-    (λ c. let h : c.number2.result < 0x100 = below 1 _ _ _ (known c.before.before.before.before) c.number2.ensures in omega arith)
+    (λ c. let h : c.number.result < 0x100 = below 1 _ _ _ (known c.before.before.before.before) c.number.ensures in omega arith)
     (λ c κs. search rules)
     (λ c. search rules)
     (λ c κs. omega (arith, (header c.before.before.before).0))
-    (λ c. let h : c.number3.result < 0x100 = below 1 _ _ _ (known c.before.before.before.before.before.before) c.number3.ensures in omega arith)
+    (λ c. let h : c.number-2.result < 0x100 = below 1 _ _ _ (known c.before.before.before.before.before.before) c.number-2.ensures in omega arith)
     (λ c κs. search rules)
     (λ c. search rules)
     (λ c κs. omega (arith, (header c.before.before.before.before.before).0))
@@ -196,7 +196,7 @@ deliver_spec =
     (λ c κs. omega (arith, (header (from_4 c.before.before.before)).0))
     (λ c. search rules)
     (λ c κs. omega (arith, (header (from_8 c)).0))
-    (λ c. let h : c.number9.result < 0x1_0000_0000 = below 4 _ _ _ (known (from_8 c.before).before.before) c.number9.ensures in omega arith)
+    (λ c. let h : c.number-3.result < 0x1_0000_0000 = below 4 _ _ _ (known (from_8 c.before).before.before) c.number-3.ensures in omega arith)
     (λ c κs. search rules)
     (λ c. omega (arith, (header (from_8 c.before.before)).1))
     (λ c κs. omega (arith, (header (from_8 c.before.before)).0))
@@ -210,10 +210,10 @@ deliver_spec =
     let n = c.before.before in
     let e = asked_of n in
     let a = e.before.before.before.before.before.args in
-    first_row a.s.now a.slots.now (known e) a.version _ (placed e) (in_front e) _ _ _ (header_of n).0 c.before.if4.true (chunk (from_12 n.before)) (first_of n).number.ensures n.before.before.before.number10.ensures (header_of n).1)
-    (λ c κs. let e = asked_of c.before in let from : start e ≡ chunk_at 2 = placed e ∙ ap chunk_at (second e c.if4.false) in omega (arith, in_front e))
+    first_row a.s.now a.slots.now (known e) a.version _ (placed e) (in_front e) _ _ _ (header_of n).0 c.before.if-version-eq1.true (chunk (from_12 n.before)) (first_of n).number-subscription_id.ensures n.before.before.before.number-data_length.ensures (header_of n).1)
+    (λ c κs. let e = asked_of c.before in let from : start e ≡ chunk_at 2 = placed e ∙ ap chunk_at (second e c.if-version-eq1.false) in omega (arith, in_front e))
     (λ c.
     let n = c.before.before.before in
     let e = asked_of n in
     let a = e.before.before.before.before.before.args in
-    second_row a.s.now a.slots.now (known e) a.version _ (placed e) (in_front e) _ _ _ _ (header_of n).0 (second e c.before.before.if4.false) (chunk (from_12 n.before)) (first_of n).number.ensures c.before.number14.ensures n.before.before.before.number10.ensures (header_of n).1))
+    second_row a.s.now a.slots.now (known e) a.version _ (placed e) (in_front e) _ _ _ _ (header_of n).0 (second e c.before.before.if-version-eq1.false) (chunk (from_12 n.before)) (first_of n).number-subscription_id.ensures c.before.number-committed_chunk_id.ensures n.before.before.before.number-data_length.ensures (header_of n).1))

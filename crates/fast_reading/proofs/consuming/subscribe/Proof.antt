@@ -37,10 +37,10 @@ row s old a p r k v n m e b l i j t h x y z u w f o g =
     (rw (i, j, z, u, q))
 
 -- The stream's name, whose end is not 0.
-stream : (c : tie.Else2) → StringAt Text c.before.before.before.before.before.before.args.s.now 5 c.before.after_text.result
-stream c = string_at Text _ 5 _ c.before.after_text.ensures c.if2.false
+stream : (c : tie.Else-offset-eq0) → StringAt Text c.before.before.before.before.before.before.args.s.now 5 c.before.after_text-offset.result
+stream c = string_at Text _ 5 _ c.before.after_text-offset.ensures c.if-offset-eq0.false
 
-abbrev from_end : tie.Else6 → tie.Else2
+abbrev from_end : tie.Else-end-s → tie.Else-offset-eq0
 from_end c = c.before.before.before.before.before.before.before.before.before.before.before.before
 
 pub subscribe_spec : {M : Type 1} → statement M
@@ -82,4 +82,4 @@ subscribe_spec =
     let q = p.before.before.before.before.before in
     let r = q.before.before.before.before.before in
     let a = r.before.before.before.before.args in
-    rw c.first-eight.ensures (row a.s.now a.slots.now _ _ _ _ _ _ _ p.list-end.result (λ i. omega (arith, r.before.before.before.shared-slice-known.given i)) r.before.before.if1.false r.before.number.ensures r.number2.ensures (stream (from_end c.before)) q.before.before.if3.false q.before.number3.ensures q.if4.false p.before.before.before.before.number4.ensures p.before.before.before.number5.ensures p.before.before.number6.ensures (rw p.before.plain-list.ensures at p.list-end.ensures) c.before.before.before.if5.false c.before.if6.false)))
+    rw c.first_eight-filled.ensures (row a.s.now a.slots.now _ _ _ _ _ _ _ p.list_end-end.result (λ i. omega (arith, r.before.before.before.shared_slice_known-1.given i)) r.before.before.if-s-lt5.false r.before.number-correlation_id.ensures r.number-subscription_id.ensures (stream (from_end c.before)) q.before.before.if-s-offset-lt16.false q.before.number-kind.ensures q.if-kind-ne4.false p.before.before.before.before.number-value.ensures p.before.before.before.number-credit.ensures p.before.before.number-count.ensures (rw p.before.plain_list.ensures at p.list_end-end.ensures) c.before.before.before.if-end-ne0.false c.before.if-end-s.false)))

@@ -16,4 +16,4 @@ first_eight_spec =
     (λ c κs. search rules)
     (λ c. search rules)
     (λ c. search rules)
-    (λ c. ap (λ (t : List ℕ). set (set t 6 c.before.args.g) 7 c.before.args.h) c.first-six.ensures))
+    (λ c. ap (λ (t : List ℕ). set (set t 6 c.before.args.g) 7 c.before.args.h) c.first_six-slots.ensures))

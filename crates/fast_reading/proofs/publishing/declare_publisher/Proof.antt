@@ -35,14 +35,14 @@ row s old a p r e b l i j t u k =
     (rw (i, j, f, g, n))
 
 -- What is known after the tests of the two ends.
-abbrev content : tie.Else3 → List ℕ
+abbrev content : tie.Else-end-s → List ℕ
 content c = c.before.before.before.before.before.before.before.before.args.s.now
 
-reference : (c : tie.Else3) → StringAt Reference (content c) 5 c.before.before.before.after-reference.result
-reference c = string_at Reference _ 5 _ c.before.before.before.after-reference.ensures c.before.before.if2.false
+reference : (c : tie.Else-end-s) → StringAt Reference (content c) 5 c.before.before.before.after_reference-stream.result
+reference c = string_at Reference _ 5 _ c.before.before.before.after_reference-stream.ensures c.before.before.if-stream-eq0.false
 
-stream : (c : tie.Else3) → StringAt Text (content c) c.before.before.before.after-reference.result c.before.after_text.result
-stream c = string_at Text _ _ _ c.before.after_text.ensures (λ z. omega arith)
+stream : (c : tie.Else-end-s) → StringAt Text (content c) c.before.before.before.after_reference-stream.result c.before.after_text-end.result
+stream c = string_at Text _ _ _ c.before.after_text-end.ensures (λ z. omega arith)
 
 pub declare_publisher_spec : {M : Type 1} → statement M
 unfolding Bytes
@@ -65,4 +65,4 @@ declare_publisher_spec =
     let p = c.before.before.before.before.before in
     let q = p.before.before in
     let a = q.before.before.args in
-    rw c.first-eight.ensures (row a.s.now a.slots.now _ _ _ _ (λ i. omega (arith, q.before.shared-slice-known.given i)) q.if1.false p.before.number.ensures p.number2.ensures (reference c.before) (stream c.before) c.before.if3.false)))
+    rw c.first_eight.ensures (row a.s.now a.slots.now _ _ _ _ (λ i. omega (arith, q.before.shared_slice_known-1.given i)) q.if-s-lt5.false p.before.number-correlation_id.ensures p.number-publisher_id.ensures (reference c.before) (stream c.before) c.before.if-end-s.false)))

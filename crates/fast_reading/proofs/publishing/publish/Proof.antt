@@ -28,4 +28,4 @@ publish_spec =
     let p = c.before.before.before.before.before in
     let q = p.before.before.before in
     let a = q.before.before.before.args in
-    rw c.first-six.ensures (byte_and_list (element_row Message) a.s.now p.list-end.result c.before.before.before.if2.false c.before.if3.false 0x0002 a.slots.now _ _ refl (λ i. omega (arith, q.before.before.shared-slice-known.given i)) q.before.if1.false q.number.ensures p.before.before.number2.ensures (rw p.before.plain-list.ensures at p.list-end.ensures))))
+    rw c.first_six.ensures (byte_and_list (element_row Message) a.s.now p.list_end-end.result c.before.before.before.if-end-ne0.false c.before.if-end-s.false 0x0002 a.slots.now _ _ refl (λ i. omega (arith, q.before.before.shared_slice_known-1.given i)) q.before.if-s-lt5.false q.number-publisher_id.ensures p.before.before.number-count.ensures (rw p.before.plain_list.ensures at p.list_end-end.ensures))))

@@ -27,4 +27,4 @@ publish_confirm_spec =
     let p = c.before.before.before.before.before in
     let q = p.before.before in
     let a = q.before.before.before.args in
-    rw c.first-six.ensures (byte_and_list (element_row PublishingId) a.s.now p.numbers_end.result c.before.before.before.if2.false c.before.if3.false 0x0003 a.slots.now _ _ refl (λ i. omega (arith, q.before.before.shared-slice-known.given i)) q.before.if1.false q.number.ensures p.before.number2.ensures p.numbers_end.ensures)))
+    rw c.first_six.ensures (byte_and_list (element_row PublishingId) a.s.now p.numbers_end-end.result c.before.before.before.if-end-ne0.false c.before.if-end-s.false 0x0003 a.slots.now _ _ refl (λ i. omega (arith, q.before.before.shared_slice_known-1.given i)) q.before.if-s-lt5.false q.number-publisher_id.ensures p.before.number-count.ensures p.numbers_end-end.ensures)))

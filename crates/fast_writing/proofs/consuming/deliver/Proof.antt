@@ -28,16 +28,16 @@ deliver_spec =
     let chunk = c.before in
     let short = chunk.before.before in
     let start = short.before.before.before.before.before.before in
-    (deliver_refused start.args.slots.now start.args.src.now _ _ _ (room _ _ _ short.before.is_number.ensures short.if1.false) chunk.chunk-refusal.ensures c.if2.true, refl))
+    (deliver_refused start.before.args.slots.now start.before.args.src.now _ _ _ (room _ _ _ short.before.is_number.ensures short.if-not-is_number.false-raw) chunk.chunk_refusal-number.ensures c.if-number-ne0.true, refl))
     (λ c.
     let passed = c in
     let chunk = passed.before in
     let start = chunk.before.before.before.before.before.before.before.before in
-    let src = start.args.src.now in
-    let header = unflat_header (drop 3 start.args.slots.now) in
-    let part = place (get_or (drop 3 start.args.slots.now) 12 0) (get_or (drop 3 start.args.slots.now) 13 0) in
-    let w = written src header part _ chunk.chunk-refusal.ensures passed.if2.false in
-    omega (arith, w.inside, get_or-drop 3 start.args.slots.now 13 0, start.well_formed.1.0.0))
+    let src = start.before.args.src.now in
+    let header = unflat_header (drop 3 start.before.args.slots.now) in
+    let part = place (get_or (drop 3 start.before.args.slots.now) 12 0) (get_or (drop 3 start.before.args.slots.now) 13 0) in
+    let w = written src header part _ chunk.chunk_refusal-number.ensures passed.if-number-ne0.false in
+    omega (arith, w.inside, get_or-drop 3 start.before.args.slots.now 13 0, start.before.well_formed.1.0.0))
     (λ c κs. search rules)
     (λ c. search rules)
     (λ c κs. search rules)
@@ -46,7 +46,7 @@ deliver_spec =
     (λ c.
     let roomy = c.before.before.before.before.before.before.before.before.before.before.before.before.before in
     let limit = roomy.before in
-    omega (arith, (limit.fits2.ensures.0 (not-false _ roomy.if3.false)).bound))
+    omega (arith, (limit.fits2.ensures.0 (not-false _ roomy.if-not-fits.false-raw)).bound))
     (λ c. search rules)
     (λ c.
     let last = c.before.before in
@@ -58,9 +58,9 @@ deliver_spec =
     let chunk = passed.before in
     let short = chunk.before.before in
     let start = short.before.before.before.before.before.before in
-    let src = start.args.src.now in
-    let header = unflat_header (drop 3 start.args.slots.now) in
-    let part = place (get_or (drop 3 start.args.slots.now) 12 0) (get_or (drop 3 start.args.slots.now) 13 0) in
-    let w = written src header part _ chunk.chunk-refusal.ensures passed.if2.false in
-    frame_put 0x0008 _ _ start.args.out.now _ _ _ _ (deliver_row start.args.slots.now src (room _ _ _ short.before.is_number.ensures short.if1.false) w) (limit.fits2.ensures.0 (not-false _ roomy.if3.false))
-    (chunk_next src header part _ _ _ _ _ w.inside (put_next _ _ _ _ _ _ head.put-head.ensures first.put-number.ensures) last.put-chunk.ensures)))
+    let src = start.before.args.src.now in
+    let header = unflat_header (drop 3 start.before.args.slots.now) in
+    let part = place (get_or (drop 3 start.before.args.slots.now) 12 0) (get_or (drop 3 start.before.args.slots.now) 13 0) in
+    let w = written src header part _ chunk.chunk_refusal-number.ensures passed.if-number-ne0.false in
+    frame_put 0x0008 _ _ start.before.args.out.now _ _ _ _ (deliver_row start.before.args.slots.now src (room _ _ _ short.before.is_number.ensures short.if-not-is_number.false-raw) w) (limit.fits2.ensures.0 (not-false _ roomy.if-not-fits.false-raw))
+    (chunk_next src header part _ _ _ _ _ w.inside (put_next _ _ _ _ _ _ head.put_head-next.ensures first.put_number-next.ensures) last.put_chunk.ensures)))

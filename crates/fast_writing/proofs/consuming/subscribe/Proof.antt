@@ -41,7 +41,7 @@ subscribe_spec =
     (λ c. search rules)
     (λ c.
     let named = c.before.before.before.before.before in
-    let t = passes _ _ _ _ _ named.before.is-string.ensures named.if4.false in
+    let t = passes _ _ _ _ _ named.before.is_string.ensures named.if-not-is_string.false-raw in
     omega (arith, t.short))
     (λ c.
     let listed = c in
@@ -49,9 +49,9 @@ subscribe_spec =
     let kind = list.before in
     let named = kind.before.before.before in
     let start = named.before.before.before.before.before.before.before.before.before.before.before.before.before.before.before.before.before.before.before in
-    let t = passes _ _ _ _ _ named.before.is-string.ensures named.if4.false in
-    let w = plain_written _ Property start.args.src.now (get_or start.args.slots.now 9 0) (get_or start.args.slots.now 10 0) (get_or start.args.slots.now 11 0) _ kind.plain-list.ensures list.list-refusal.ensures listed.if6.false in
-    omega (arith, t.short, w.inside, start.well_formed.1.0.0))
+    let t = passes _ _ _ _ _ named.before.is_string.ensures named.if-not-is_string.false-raw in
+    let w = plain_written _ Property start.before.args.src.now (get_or start.before.args.slots.now 9 0) (get_or start.before.args.slots.now 10 0) (get_or start.before.args.slots.now 11 0) _ kind.plain_list.ensures list.list_refusal.ensures listed.if-list_refusal-ne0.false in
+    omega (arith, t.short, w.inside, start.before.well_formed.1.0.0))
     (λ c κs. search rules)
     (λ c. search rules)
     (λ c κs. search rules)
@@ -66,7 +66,7 @@ subscribe_spec =
     (λ c.
     let roomy = c.before.before.before.before.before.before.before.before.before.before.before.before.before.before.before.before.before.before.before.before.before.before.before.before.before.before.before.before.before.before.before.before.before.before.before.before in
     let limit = roomy.before in
-    omega (arith, (limit.fits2.ensures.0 (not-false _ roomy.if7.false)).bound))
+    omega (arith, (limit.fits2.ensures.0 (not-false _ roomy.if-not-fits.false-raw)).bound))
     (λ c.
     let o9 = c.before in
     let o8 = o9.before.before.before.before in
@@ -77,7 +77,7 @@ subscribe_spec =
     let o3 = o4.before.before.before.before in
     let o2 = o3.before.before.before.before in
     let o1 = o2.before.before.before.before in
-    o9.out9.given ∙ o8.out8.given ∙ o7.out7.given ∙ o6.out6.given ∙ o5.out5.given ∙ o4.out4.given ∙ o3.out3.given ∙ o2.out2.given ∙ o1.out.given)
+    o9.out-9-1.given ∙ o8.out-8-1.given ∙ o7.out-7-1.given ∙ o6.out-6-1.given ∙ o5.out-5-1.given ∙ o4.out-4-1.given ∙ o3.out-3-1.given ∙ o2.out-2-1.given ∙ o1.out-1.given)
     (λ c.
     let last = c.before.before in
     let number = last.before.before.before.before in
@@ -99,9 +99,9 @@ subscribe_spec =
     let known = short.before.before in
     let from = known.before.before in
     let start = from.before.before.before.before.before.before.before.before.before.before.before.before.before in
-    let t = passes _ _ _ _ _ named.before.is-string.ensures named.if4.false in
-    let w = plain_written _ Property start.args.src.now (get_or start.args.slots.now 9 0) (get_or start.args.slots.now 10 0) (get_or start.args.slots.now 11 0) _ kind.plain-list.ensures list.list-refusal.ensures listed.if6.false in
-    let src = start.args.src.now in
-    let s = start.args.slots.now in
-    frame_put 0x0007 _ _ start.args.out.now _ _ _ _ (subscribe_row s src t w (room _ _ _ known.before.is_number.ensures known.if2.false) (room _ _ _ short.before.is-number2.ensures short.if3.false) from.if1.false offset.put-eight.ensures.1 (room _ _ _ credit.before.is-number3.ensures credit.if5.false)) (limit.fits2.ensures.0 (not-false _ roomy.if7.false))
-    (part_next src _ _ _ _ _ _ _ w.inside (put_next _ _ _ _ _ _ (put_next _ _ _ _ _ _ (eight_next _ _ _ _ _ _ (put_next _ _ _ _ _ _ (text_next src _ _ _ _ _ _ _ t.inside (put_next _ _ _ _ _ _ (put_next _ _ _ _ _ _ head.put-head.ensures first.put-number.ensures) second.put-number2.ensures) text.put-text.ensures) type.put-number3.ensures) offset.put-eight.ensures.0) granted.put-number4.ensures) number.put-number5.ensures) last.put-bytes.ensures)))
+    let t = passes _ _ _ _ _ named.before.is_string.ensures named.if-not-is_string.false-raw in
+    let w = plain_written _ Property start.before.args.src.now (get_or start.before.args.slots.now 9 0) (get_or start.before.args.slots.now 10 0) (get_or start.before.args.slots.now 11 0) _ kind.plain_list.ensures list.list_refusal.ensures listed.if-list_refusal-ne0.false in
+    let src = start.before.args.src.now in
+    let s = start.before.args.slots.now in
+    frame_put 0x0007 _ _ start.before.args.out.now _ _ _ _ (subscribe_row s src t w (room _ _ _ known.before.is_number.ensures known.if-not-is_number.false-raw) (room _ _ _ short.before.is_number-2.ensures short.if-not-is_number-2.false-raw) from.if-slots-ne4.false offset.put_eight-next.ensures.1 (room _ _ _ credit.before.is_number-3.ensures credit.if-not-is_number-3.false-raw)) (limit.fits2.ensures.0 (not-false _ roomy.if-not-fits.false-raw))
+    (part_next src _ _ _ _ _ _ _ w.inside (put_next _ _ _ _ _ _ (put_next _ _ _ _ _ _ (eight_next _ _ _ _ _ _ (put_next _ _ _ _ _ _ (text_next src _ _ _ _ _ _ _ t.inside (put_next _ _ _ _ _ _ (put_next _ _ _ _ _ _ head.put_head-next.ensures first.put_number-next.ensures) second.put_number-next-2.ensures) text.put_text-next.ensures) type.put_number-next-3.ensures) offset.put_eight-next.ensures.0) granted.put_number-next-4.ensures) number.put_number-next-5.ensures) last.put_bytes.ensures)))

@@ -13,11 +13,11 @@ use Rattle.fast_writing.proofs.publishing.declare_publisher.Statement.{statement
 use Rattle.fast_writing.proofs.publishing.declare_publisher.Tie as tie
 
 -- The two names.
-referred : (c : tie.Else3) → let a = c.before.before.before.before.before.before.before.before.before.before.before.before.before.before.args in Admitted Reference a.src.now (slot a.slots.now 4) (slot a.slots.now 5)
-referred c = passes _ _ _ _ _ c.before.is-string.ensures c.if3.false
+referred : (c : tie.Else-not-is_string) → let a = c.before.before.before.before.before.before.before.before.before.before.before.before.before.before.before.args in Admitted Reference a.src.now (slot a.slots.now 4) (slot a.slots.now 5)
+referred c = passes _ _ _ _ _ c.before.is_string.ensures c.if-not-is_string.false-raw
 
-named : (c : tie.Else4) → let a = c.before.before.before.before.before.before.before.before.before.before.before.before.before.before.before.before.args in Admitted Text a.src.now (slot a.slots.now 6) (slot a.slots.now 7)
-named c = passes _ _ _ _ _ c.before.is-string2.ensures c.if4.false
+named : (c : tie.Else-not-is_string-2) → let a = c.before.before.before.before.before.before.before.before.before.before.before.before.before.before.before.before.before.args in Admitted Text a.src.now (slot a.slots.now 6) (slot a.slots.now 7)
+named c = passes _ _ _ _ _ c.before.is_string-2.ensures c.if-not-is_string-2.false-raw
 
 pub declare_publisher_spec : {M : Type 1} → statement M
 declare_publisher_spec =
@@ -49,7 +49,7 @@ declare_publisher_spec =
     (λ c.
     let roomy = c.before.before.before.before.before.before.before.before.before.before.before.before.before.before.before.before.before.before.before.before in
     let limit = roomy.before in
-    omega (arith, (limit.fits2.ensures.0 (not-false _ roomy.if5.false)).bound))
+    omega (arith, (limit.fits2.ensures.0 (not-false _ roomy.if-not-fits.false-raw)).bound))
     (λ c. search rules)
     (λ c.
     let last = c.before.before in
@@ -66,6 +66,6 @@ declare_publisher_spec =
     let start = known.before.before.before.before.before.before.before.before.before.before in
     let t = referred stream in
     let u = named whole in
-    let src = start.args.src.now in
-    frame_put 0x0001 _ _ start.args.out.now _ _ _ _ (declare_row start.args.slots.now src t u (room _ _ _ known.before.is_number.ensures known.if1.false) (room _ _ _ short.before.is-number2.ensures short.if2.false)) (limit.fits2.ensures.0 (not-false _ roomy.if5.false))
-    (text_next src _ _ _ _ _ _ _ u.inside (text_next src _ _ _ _ _ _ _ t.inside (put_next _ _ _ _ _ _ (put_next _ _ _ _ _ _ head.put-head.ensures first.put-number.ensures) second.put-number2.ensures) third.put-text.ensures) last.put-text2.ensures)))
+    let src = start.before.args.src.now in
+    frame_put 0x0001 _ _ start.before.args.out.now _ _ _ _ (declare_row start.before.args.slots.now src t u (room _ _ _ known.before.is_number.ensures known.if-not-is_number.false-raw) (room _ _ _ short.before.is_number-2.ensures short.if-not-is_number-2.false-raw)) (limit.fits2.ensures.0 (not-false _ roomy.if-not-fits.false-raw))
+    (text_next src _ _ _ _ _ _ _ u.inside (text_next src _ _ _ _ _ _ _ t.inside (put_next _ _ _ _ _ _ (put_next _ _ _ _ _ _ head.put_head-next.ensures first.put_number-next.ensures) second.put_number-next-2.ensures) third.put_text-next.ensures) last.put_text.ensures)))

@@ -15,4 +15,4 @@ put_eight_spec =
     let last = c.before.before in
     let first = last.before.before.before.before in
     let start = first.before.before.before in
-    (put_next _ _ _ _ _ _ first.put-number.ensures last.put-number2.ensures, start.ranges.v.fits)))
+    (put_next _ _ _ _ _ _ first.put_number-next.ensures last.put_number.ensures, start.ranges.v.fits)))

@@ -16,4 +16,4 @@ put_text_spec =
     let text = c.before.before in
     let front = text.before.before.before.before in
     let start = front.before.before.before.before in
-    copied_next start.args.src.now (place start.args.from start.args.len) _ _ _ _ _ front.put-number.ensures text.put-bytes.ensures))
+    copied_next start.args.src.now (place start.args.from start.args.len) _ _ _ _ _ front.put_number-next.ensures text.put_bytes.ensures))

@@ -24,54 +24,54 @@ write_spec =
     let arm = row.before.before in
     let version = arm.before.before in
     let start = version.before.before.before.before in
-    let a = start.args in
-    same_writing _ _ a.out.now row.declare-publisher.new.1.1.1.0 row.declare-publisher.result (declare_flat a.slots.now a.src.now a.limit a.out.now version.if1.false arm.match.keys1) row.declare-publisher.ensures)
+    let a = start.before.args in
+    same_writing _ _ a.out.now row.declare_publisher.new.1.1.1.0 row.declare_publisher.result (declare_flat a.slots.now a.src.now a.limit a.out.now version.if-slots-ne1.false arm.in-1.is) row.declare_publisher.ensures)
     (λ c. search rules)
     (λ c.
     let row = c.before.before in
     let arm = row.before.before in
     let version = arm.before.before in
     let start = version.before.before.before.before in
-    let a = start.args in
-    same_writing _ _ a.out.now row.publish.new.1.1.1.0 row.publish.result (publish_flat a.slots.now a.src.now a.limit a.out.now version.if1.false arm.match.keys2) row.publish.ensures)
+    let a = start.before.args in
+    same_writing _ _ a.out.now row.publish.new.1.1.1.0 row.publish.result (publish_flat a.slots.now a.src.now a.limit a.out.now version.if-slots-ne1.false arm.in-2.is) row.publish.ensures)
     (λ c. search rules)
     (λ c.
     let row = c.before.before in
     let arm = row.before.before in
     let version = arm.before.before in
     let start = version.before.before.before.before in
-    let a = start.args in
-    same_writing _ _ a.out.now row.publish-confirm.new.1.1.1.0 row.publish-confirm.result (confirm_flat a.slots.now a.src.now a.limit a.out.now version.if1.false arm.match.keys3) row.publish-confirm.ensures)
+    let a = start.before.args in
+    same_writing _ _ a.out.now row.publish_confirm.new.1.1.1.0 row.publish_confirm.result (confirm_flat a.slots.now a.src.now a.limit a.out.now version.if-slots-ne1.false arm.in-3.is) row.publish_confirm.ensures)
     (λ c. search rules)
     (λ c.
     let row = c.before.before in
     let arm = row.before.before in
     let version = arm.before.before in
     let start = version.before.before.before.before in
-    let a = start.args in
-    same_writing _ _ a.out.now row.subscribe.new.1.1.1.0 row.subscribe.result (subscribe_flat a.slots.now a.src.now a.limit a.out.now version.if1.false arm.match.keys4) row.subscribe.ensures)
+    let a = start.before.args in
+    same_writing _ _ a.out.now row.subscribe.new.1.1.1.0 row.subscribe.result (subscribe_flat a.slots.now a.src.now a.limit a.out.now version.if-slots-ne1.false arm.in-7.is) row.subscribe.ensures)
     (λ c. search rules)
     (λ c.
     let row = c.before.before in
     let arm = row.before.before in
     let version = arm.before.before in
     let start = version.before.before.before.before in
-    let a = start.args in
-    same_writing _ _ a.out.now row.deliver.new.1.1.1.0 row.deliver.result (deliver_flat a.slots.now a.src.now a.limit a.out.now version.if1.false arm.match.keys5) row.deliver.ensures)
+    let a = start.before.args in
+    same_writing _ _ a.out.now row.deliver.new.1.1.1.0 row.deliver.result (deliver_flat a.slots.now a.src.now a.limit a.out.now version.if-slots-ne1.false arm.in-8.is) row.deliver.ensures)
     (λ c. search rules)
     (λ c.
     let row = c.before.before in
     let arm = row.before.before in
     let version = arm.before.before in
     let start = version.before.before.before.before in
-    let a = start.args in
-    same_writing _ _ a.out.now row.credit.new.1.1.0 row.credit.result (credit_flat a.slots.now a.src.now a.limit a.out.now version.if1.false arm.match.keys6) row.credit.ensures)
+    let a = start.before.args in
+    same_writing _ _ a.out.now row.credit.new.1.1.0 row.credit.result (credit_flat a.slots.now a.src.now a.limit a.out.now version.if-slots-ne1.false arm.in-9.is) row.credit.ensures)
     (λ c. search rules)
     (λ c.
     let row = c.before.before in
     let arm = row.before.before in
     let version = arm.before.before in
     let start = version.before.before.before.before in
-    let a = start.args in
-    same_writing _ _ a.out.now row.heartbeat.new.1.0 row.heartbeat.result (heartbeat_flat a.slots.now a.src.now a.limit a.out.now version.if1.false arm.match.keys7) row.heartbeat.ensures)
+    let a = start.before.args in
+    same_writing _ _ a.out.now row.heartbeat.new.1.0 row.heartbeat.result (heartbeat_flat a.slots.now a.src.now a.limit a.out.now version.if-slots-ne1.false arm.in-23.is) row.heartbeat.ensures)
     (λ c. search rules))

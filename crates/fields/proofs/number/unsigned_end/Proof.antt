@@ -10,6 +10,6 @@ unsigned_end_spec =
     (tie.spec
     (λ c κs. search rules)
     (λ c κs. search rules)
-    (λ c. rw (not_admitted_lem _ _ _ _ _ c.before.before.number-or-zero.ensures c.before.if1.true) c.refuse.ensures)
+    (λ c. rw (not_admitted_lem _ _ _ _ _ c.before.before.number_or_zero.ensures c.before.if-most-number_or_zero.true) c.refuse.ensures)
     (λ c κs. search rules)
-    (λ c. admitted _ _ _ _ _ c.before.before.number-or-zero.ensures c.before.if1.false _ c.number_end.ensures))
+    (λ c. admitted _ _ _ _ _ c.before.before.number_or_zero.ensures c.before.if-most-number_or_zero.false _ c.number_end.ensures))

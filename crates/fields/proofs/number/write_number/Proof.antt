@@ -13,4 +13,4 @@ write_number_spec =
     (λ c κs. search rules)
     (λ c κs. omega (arith, c.largest.ensures, positive (width_of c.before.before.before.args.width)))
     (λ c. search rules)
-    (λ c. rw c.before.before.before.largest.ensures at c.before.before.write-unsigned.ensures))
+    (λ c. rw c.before.before.before.largest.ensures at c.before.before.write_unsigned.ensures))

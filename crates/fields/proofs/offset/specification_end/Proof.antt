@@ -10,8 +10,8 @@ use Rattle.fields.proofs.Specifications.{type_cut, none_refused, without_number,
 use Rattle.fields.proofs.offset.specification_end.Statement.{statement}
 use Rattle.fields.proofs.offset.specification_end.Tie as tie
 
-there : (c : tie.Else1) → let a = c.before.before.before.args in a.at + 2 ≤ length a.s.now
-there c = room _ _ _ c.before.has_room.ensures c.if1.false
+there : (c : tie.Else-not-has_room) → let a = c.before.before.before.args in a.at + 2 ≤ length a.s.now
+there c = room _ _ _ c.before.has_room.ensures c.if-not-has_room.false-raw
 
 pub specification_end_spec : {M : Type 1} → statement M
 specification_end_spec =
@@ -19,14 +19,14 @@ specification_end_spec =
     (tie.spec
     (λ c κs. search rules)
     (λ c κs. search rules)
-    (λ c. rw (type_cut _ _ _ (no_room _ _ _ c.before.before.has_room.ensures c.before.if1.true)) c.refuse.ensures)
+    (λ c. rw (type_cut _ _ _ (no_room _ _ _ c.before.before.has_room.ensures c.before.if-not-has_room.true-raw)) c.refuse.ensures)
     (λ c. omega (arith, there c))
     (λ c κs. search rules)
     (λ c κs. search rules)
-    (λ c. let n = c.before.before in rw (none_refused _ _ _ (there n.before) _ n.number-or-zero.ensures c.before.if2.true) c.refuse2.ensures)
+    (λ c. let n = c.before.before in rw (none_refused _ _ _ (there n.before) _ n.number_or_zero-kind.ensures c.before.if-kind-admits_none.true) c.refuse-then-kind-admits_none.ensures)
     (λ c κs. search rules)
-    (λ c. let n = c.before.before.before in c.after.ensures ∙ ap stop (sym (without_number _ _ _ (there n.before) _ n.number-or-zero.ensures c.before.before.if2.false c.before.if3.true).1))
+    (λ c. let n = c.before.before.before in c.after.ensures ∙ ap stop (sym (without_number _ _ _ (there n.before) _ n.number_or_zero-kind.ensures c.before.before.if-kind-admits_none.false c.before.if-kind-lt4.true).1))
     (λ c κs. search rules)
-    (λ c. let n = c.before.before.before.before in c.number_end.ensures ∙ with_number _ _ _ (there n.before) _ n.number-or-zero.ensures c.before.before.if3.false c.before.if4.true)
+    (λ c. let n = c.before.before.before.before in c.number_end.ensures ∙ with_number _ _ _ (there n.before) _ n.number_or_zero-kind.ensures c.before.before.if-kind-lt4.false c.before.if-kind-lt6.true)
     (λ c κs. search rules)
-    (λ c. let n = c.before.before.before.before in rw (type_unknown _ _ _ (there n.before) _ n.number-or-zero.ensures c.before.if4.false) c.refuse3.ensures))
+    (λ c. let n = c.before.before.before.before in rw (type_unknown _ _ _ (there n.before) _ n.number_or_zero-kind.ensures c.before.if-kind-lt6.false) c.refuse-2.ensures))

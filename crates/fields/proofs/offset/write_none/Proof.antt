@@ -11,12 +11,12 @@ unfolding write_offset
 write_none_spec =
     tie.close
     (tie.spec
-    (λ c. stays _ _ _ _ c.if1.true)
+    (λ c. stays _ _ _ _ c.if-w-ne0.true)
     (λ c κs. search rules)
     (λ c. search rules)
-    (λ c. unmeasured _ _ _ _ _ _ c.before.before.before.before.if2.true c.before.before.write-type.ensures)
+    (λ c. unmeasured _ _ _ _ _ _ c.before.before.before.before.if-w.true c.before.before.write_type.ensures)
     (λ c κs. search rules)
     (λ c. search rules)
-    (λ c. rw c.before.before.before.before.if3.true c.before.before.write-type2.ensures)
+    (λ c. rw c.before.before.before.before.if-admitted.true c.before.before.write_type-then-admitted.ensures)
     (λ c κs. search rules)
-    (λ c. measured_there _ _ _ _ c.before.before.before.if1.false _ c.before.before.if2.false (refused_with _ _ _ _ (none_not_admitted _ c.before.if3.false) c.refuse.ensures)))
+    (λ c. measured_there _ _ _ _ c.before.before.before.if-w-ne0.false _ c.before.before.if-w.false (refused_with _ _ _ _ (none_not_admitted _ c.before.if-admitted.false) c.refuse.ensures)))

@@ -14,11 +14,11 @@ pub write_numbered_spec : {M : Type 1} → statement M
 write_numbered_spec =
     tie.close
     (tie.spec
-    (λ c. stays _ _ _ _ c.if1.true)
+    (λ c. stays _ _ _ _ c.if-w-ne0.true)
     (λ c κs. search rules)
-    (λ c. let a = c.before.before.before.before.before.before.args in measured_there _ _ _ _ c.before.before.before.if1.false _ (not-true _ c.before.if2.true) (counted _ _ _ (digits 2 a.kind ++ digits 8 a.value) 10 refl (rw (length-append (digits 2 a.kind) (digits 8 a.value), (integers 2).size a.kind, (integers 8).size a.value)) c.count.ensures))
+    (λ c. let a = c.before.before.before.before.before.before.args in measured_there _ _ _ _ c.before.before.before.if-w-ne0.false _ (not-true _ c.before.if-not-w.true) (counted _ _ _ (digits 2 a.kind ++ digits 8 a.value) 10 refl (rw (length-append (digits 2 a.kind) (digits 8 a.value), (integers 2).size a.kind, (integers 8).size a.value)) c.count.ensures))
     (λ c κs. search rules)
     (λ c κs. search rules)
     (λ c κs. search rules)
     (λ c. search rules)
-    (λ c. put_there _ _ _ _ c.before.before.before.before.before.before.before.before.before.before.before.if1.false _ _ _ (not-false _ c.before.before.before.before.before.before.before.before.before.if2.false) (put_next _ _ _ _ _ _ c.before.before.before.before.before.before.before.put-number.ensures c.before.before.before.put-number2.ensures) c.at_place.ensures))
+    (λ c. put_there _ _ _ _ c.before.before.before.before.before.before.before.before.before.before.before.if-w-ne0.false _ _ _ (not-false _ c.before.before.before.before.before.before.before.before.before.if-not-w.false) (put_next _ _ _ _ _ _ c.before.before.before.before.before.before.before.put_number-next.ensures c.before.before.before.put_number.ensures) c.at_place.ensures))

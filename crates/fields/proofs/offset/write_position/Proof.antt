@@ -10,4 +10,4 @@ write_position_spec =
     (tie.spec
     (λ c κs. search rules)
     (λ c. search rules)
-    (λ c. rw (position_fits _ _ c.before.before.before.before.before.ranges.x.fits) c.before.before.write-numbered.ensures))
+    (λ c. rw (position_fits _ _ c.before.before.before.before.before.ranges.x.fits) c.before.before.write_numbered.ensures))

@@ -16,13 +16,13 @@ unfolding write_string
 write_null_spec =
     tie.close
     (tie.spec
-    (λ c. stays _ _ _ _ c.if1.true)
+    (λ c. stays _ _ _ _ c.if-w-ne0.true)
     (λ c κs. search rules)
     (λ c κs. search rules)
     (λ c κs. search rules)
-    (λ c. measured_there _ _ _ _ c.before.before.before.before.before.if1.false _ (not-true _ c.before.before.if2.true) (counted _ _ _ (digits (length_width c.before.before.before.before.before.before.before.before.args.form) (256 ^ length_width c.before.before.before.before.before.before.before.before.args.form - 1)) _ refl ((integers (length_width c.before.before.before.before.before.before.before.before.args.form)).size _) (rw (c.before.bytes.ensures, c.before.before.before.before.length-width.ensures) at c.count.ensures)))
+    (λ c. measured_there _ _ _ _ c.before.before.before.before.before.if-w-ne0.false _ (not-true _ c.before.before.if-not-w.true) (counted _ _ _ (digits (length_width c.before.before.before.before.before.before.before.before.args.form) (256 ^ length_width c.before.before.before.before.before.before.before.before.args.form - 1)) _ refl ((integers (length_width c.before.before.before.before.before.before.before.before.args.form)).size _) (rw (c.before.bytes.ensures, c.before.before.before.before.length_width-width.ensures) at c.count.ensures)))
     (λ c κs. search rules)
     (λ c κs. search rules)
     (λ c κs. search rules)
     (λ c. search rules)
-    (λ c. put_there _ _ _ _ c.before.before.before.before.before.before.before.before.before.if1.false _ _ _ (not-false _ c.before.before.before.before.before.before.if2.false) (rw (c.before.before.before.before.before.before.before.before.length-width.ensures, c.before.before.before.before.minus_one.ensures) at c.before.before.before.put-number.ensures) c.at_place.ensures))
+    (λ c. put_there _ _ _ _ c.before.before.before.before.before.before.before.before.before.if-w-ne0.false _ _ _ (not-false _ c.before.before.before.before.before.before.if-not-w.false) (rw (c.before.before.before.before.before.before.before.before.length_width-width.ensures, c.before.before.before.before.minus_one.ensures) at c.before.before.before.put_number.ensures) c.at_place.ensures))

@@ -14,6 +14,6 @@ write_nullable_spec =
     (λ c. search rules)
     (λ c κs. search rules)
     (λ c. search rules)
-    (λ c. rw c.before.before.before.before.enum_told.given.1 c.before.before.write-null.ensures)
+    (λ c. rw c.before.before.before.before.in-Null.is c.before.before.write_null.ensures)
     (λ c. search rules)
-    (λ c. rw c.before.before.before.before.before.value.given.1 c.before.before.write-string.ensures))
+    (λ c. rw c.before.before.before.before.in-At.is c.before.before.write_string.ensures))

@@ -9,12 +9,12 @@ pub write_string_spec : {M : Type 1} → statement M
 write_string_spec =
     tie.close
     (tie.spec
-    (λ c. stays _ _ _ _ c.if1.true)
+    (λ c. stays _ _ _ _ c.if-w-ne0.true)
     (λ c κs. search rules)
-    (λ c. measured_there _ _ _ _ c.before.before.before.if1.false _ (not-true _ c.before.if2.true) c.measure-string.ensures)
+    (λ c. measured_there _ _ _ _ c.before.before.before.if-w-ne0.false _ (not-true _ c.before.if-not-w.true) c.measure_string.ensures)
     (λ c κs. search rules)
     (λ c κs. search rules)
     (λ c κs. search rules)
     (λ c κs. search rules)
     (λ c. search rules)
-    (λ c. put_there _ _ _ _ c.before.before.before.before.before.before.before.before.before.before.before.before.if1.false _ _ _ (not-false _ c.before.before.before.before.before.before.before.before.before.before.if2.false) (copied_next _ _ _ _ _ _ _ (rw c.before.before.before.before.before.before.before.before.length-width.ensures at c.before.before.before.before.before.before.before.put-number.ensures) c.before.before.before.put-bytes.ensures) c.at_place.ensures))
+    (λ c. put_there _ _ _ _ c.before.before.before.before.before.before.before.before.before.before.before.before.if-w-ne0.false _ _ _ (not-false _ c.before.before.before.before.before.before.before.before.before.before.if-not-w.false) (copied_next _ _ _ _ _ _ _ (rw c.before.before.before.before.before.before.before.before.length_width.ensures at c.before.before.before.before.before.before.before.put_number-behind.ensures) c.before.before.before.put_bytes.ensures) c.at_place.ensures))

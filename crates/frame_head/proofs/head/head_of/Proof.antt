@@ -13,9 +13,9 @@ head_of_spec =
     tie.close
     (tie.spec
     (λ c κs. search rules)
-    (λ c. omega (arith, zero_below 4 _ 0 _ (λ i. omega (arith, c.before.shared-slice-known.given i)) c.number-or-zero.ensures))
+    (λ c. omega (arith, zero_below 4 _ 0 _ (λ i. omega (arith, c.before.shared_slice_known-1.given i)) c.number_or_zero.ensures))
     (λ c κs. search rules)
-    (λ c. omega (arith, zero_below 2 _ 4 _ (λ i. omega (arith, c.before.before.shared-slice-known.given i)) c.number-or-zero2.ensures))
+    (λ c. omega (arith, zero_below 2 _ 4 _ (λ i. omega (arith, c.before.before.shared_slice_known-1.given i)) c.number_or_zero-2.ensures))
     (λ c κs. search rules)
-    (λ c. omega (arith, zero_below 2 _ 6 _ (λ i. omega (arith, c.before.before.before.shared-slice-known.given i)) c.number-or-zero3.ensures))
-    (λ c. rw (c.number-or-zero3.ensures, c.before.number-or-zero2.ensures, c.before.before.number-or-zero.ensures)))
+    (λ c. omega (arith, zero_below 2 _ 6 _ (λ i. omega (arith, c.before.before.before.shared_slice_known-1.given i)) c.number_or_zero-3.ensures))
+    (λ c. rw (c.number_or_zero-3.ensures, c.before.number_or_zero-2.ensures, c.before.before.number_or_zero.ensures)))

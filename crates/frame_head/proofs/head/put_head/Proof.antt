@@ -12,4 +12,4 @@ put_head_spec =
     (λ c κs. search rules)
     (λ c κs. search rules)
     (λ c. search rules)
-    (λ c. put_next _ _ _ _ _ _ (put_next _ _ _ _ _ _ c.before.before.before.before.before.before.before.before.before.before.put-number.ensures c.before.before.before.before.before.before.put-number2.ensures) c.before.before.put-number3.ensures))
+    (λ c. put_next _ _ _ _ _ _ (put_next _ _ _ _ _ _ c.before.before.before.before.before.before.before.before.before.before.put_number-next.ensures c.before.before.before.before.before.before.put_number-next-2.ensures) c.before.before.put_number.ensures))

@@ -11,4 +11,4 @@ fits_spec =
     tie.close
     (tie.spec
     (λ c κs. search rules)
-    (λ c. (λ e. fits _ _ _ (sym c.size-refusal.ensures ∙ eqb-true _ _ e), λ h. eq-eqb _ _ (c.size-refusal.ensures ∙ not_refused _ _ _ h))))
+    (λ c. (λ e. fits _ _ _ (sym c.size_refusal.ensures ∙ eqb-true _ _ e), λ h. eq-eqb _ _ (c.size_refusal.ensures ∙ not_refused _ _ _ h))))

@@ -7,5 +7,5 @@ pub over_limit_spec : {M : Type 1} → statement M
 over_limit_spec =
     tie.close
     (tie.spec
-    (λ c. rw (eq-eqb _ _ c.if1.true))
-    (λ c. rw (ne_eqb _ _ c.if1.false)))
+    (λ c. rw (eq-eqb _ _ c.if-limit-eq0.true))
+    (λ c. rw (ne_eqb _ _ c.if-limit-eq0.false)))

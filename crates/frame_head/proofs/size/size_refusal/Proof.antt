@@ -12,9 +12,9 @@ unfolding size_refusal
 size_refusal_spec =
     tie.close
     (tie.spec
-    (λ c. rw (lt-ltb _ _ c.if1.true))
+    (λ c. rw (lt-ltb _ _ c.if-size-gt4294967295.true))
     (λ c κs. search rules)
-    (λ c. rw (le-ltb _ _ c.before.before.if1.false, sym c.before.over-limit.ensures ∙ c.if2.true))
-    (λ c. omega (arith, c.before.before.if1.false))
-    (λ c. rw (le-ltb _ _ c.before.before.before.if1.false, sym c.before.before.over-limit.ensures ∙ c.before.if2.false, lt-ltb _ _ c.if3.true))
-    (λ c. rw (le-ltb _ _ c.before.before.before.if1.false, sym c.before.before.over-limit.ensures ∙ c.before.if2.false, le-ltb _ _ c.if3.false)))
+    (λ c. rw (le-ltb _ _ c.before.before.if-size-gt4294967295.false, sym c.before.over_limit.ensures ∙ c.if-over_limit.true))
+    (λ c. omega (arith, c.before.before.if-size-gt4294967295.false))
+    (λ c. rw (le-ltb _ _ c.before.before.before.if-size-gt4294967295.false, sym c.before.before.over_limit.ensures ∙ c.before.if-over_limit.false, lt-ltb _ _ c.if-room-size.true))
+    (λ c. rw (le-ltb _ _ c.before.before.before.if-size-gt4294967295.false, sym c.before.before.over_limit.ensures ∙ c.before.if-over_limit.false, le-ltb _ _ c.if-room-size.false)))

@@ -10,8 +10,8 @@ use borrow.Author.Rules.{rules}
 use Rattle.frame_reading.proofs.reading.read.Statement.{statement}
 use Rattle.frame_reading.proofs.reading.read.Tie as tie
 
-within : (c : tie.Else2) → let h = c.before.before.before in over_limit h.before.before.before.args.limit h.head_of.result.size ≡ false
-within c = sym c.before.over-limit.ensures ∙ c.if2.false
+within : (c : tie.Else-over_limit) → let h = c.before.before.before in over_limit h.before.before.before.args.limit h.head_of-size.result.size ≡ false
+within c = sym c.before.over_limit.ensures ∙ c.if-over_limit.false
 
 pub read_spec : {M : Type 1} → statement M
 read_spec =
@@ -19,7 +19,7 @@ read_spec =
     (tie.spec
     (λ c.
     let a = c.before.before.args in
-    all_told (read_frame a.bytes.now a.limit) a.slots.now _ _ (answered _ _ a.slots.now _ _ (size_cut a.bytes.now a.limit c.if1.true) (refl, refl)))
+    all_told (read_frame a.bytes.now a.limit) a.slots.now _ _ (answered _ _ a.slots.now _ _ (size_cut a.bytes.now a.limit c.if-bytes-lt4.true) (refl, refl)))
     (λ c κs. search rules)
     (λ c. search rules)
     (λ c κs. search rules)
@@ -27,20 +27,20 @@ read_spec =
     (λ c.
     let h = c.before.before.before.before in
     let a = h.before.before.before.args in
-    all_told (read_frame a.bytes.now a.limit) a.slots.now _ _ (answered _ _ a.slots.now _ _ (too_large a.bytes.now a.limit _ h.head_of.ensures h.before.if1.false (sym c.before.before.over-limit.ensures ∙ c.before.if2.true)) (c.refused.ensures, refl)))
+    all_told (read_frame a.bytes.now a.limit) a.slots.now _ _ (answered _ _ a.slots.now _ _ (too_large a.bytes.now a.limit _ h.head_of-size.ensures h.before.if-bytes-lt4.false (sym c.before.before.over_limit.ensures ∙ c.before.if-over_limit.true)) (c.refused.ensures, refl)))
     (λ c κs. search rules)
     (λ c.
     let l = c.before.before in
     let h = l.before.before.before in
     let a = h.before.before.before.args in
-    all_told (read_frame a.bytes.now a.limit) a.slots.now _ _ (answered _ _ a.slots.now _ _ (too_small a.bytes.now a.limit _ h.head_of.ensures h.before.if1.false (within l) c.before.if3.true) (c.refused2.ensures, refl)))
+    all_told (read_frame a.bytes.now a.limit) a.slots.now _ _ (answered _ _ a.slots.now _ _ (too_small a.bytes.now a.limit _ h.head_of-size.ensures h.before.if-bytes-lt4.false (within l) c.before.if-size-lt4.true) (c.refused-then-size-lt4.ensures, refl)))
     (λ c. search rules)
     (λ c. search rules)
     (λ c.
     let l = c.before.before in
     let h = l.before.before.before in
     let a = h.before.before.before.args in
-    all_told (read_frame a.bytes.now a.limit) a.slots.now _ _ (answered _ _ a.slots.now _ _ (cut a.bytes.now a.limit _ h.head_of.ensures h.before.if1.false (within l) c.before.if3.false c.if4.true) (refl, refl)))
+    all_told (read_frame a.bytes.now a.limit) a.slots.now _ _ (answered _ _ a.slots.now _ _ (cut a.bytes.now a.limit _ h.head_of-size.ensures h.before.if-bytes-lt4.false (within l) c.before.if-size-lt4.false c.if-bytes-end.true) (refl, refl)))
     (λ c. sym (length-take-le _ _ c.before.if4.false))
     (λ c κs. search rules)
     (λ c. search rules)
@@ -52,5 +52,5 @@ read_spec =
     let t = second.before.before in
     let l = t.before.before in
     let h = l.before.before.before in
-    let a = h.before.before.before.args in
-    all_told (read_frame a.bytes.now a.limit) a.slots.now _ _ (answered _ _ a.slots.now _ _ (whole a.bytes.now a.limit _ h.head_of.ensures h.before.if1.false (within l) t.before.if3.false _ _ refl t.if4.false second.head-of2.ensures) c.read_whole.ensures)))
+    let a = h.before.before.args in
+    all_told (read_frame a.bytes.now a.limit) a.slots.now _ _ (answered _ _ a.slots.now _ _ (whole a.bytes.now a.limit _ h.head_of.ensures h.before.if1.false (within l) t.before.if3.false _ _ refl t.if4.false second.head_of-head.ensures) c.read_whole.ensures)))

@@ -13,15 +13,15 @@ read_content_spec =
     (λ c.
     let content = c.before.before.before in
     let start = content.before.before.before in
-    omega (arith, inside start.args.key start.args.version start.args.s.now _ start.requires _ content.read-content.ensures.0))
+    omega (arith, inside start.args.key start.args.version start.args.s.now _ start.requires _ content.read_content-end.ensures.0))
     (λ c κs. search rules)
     (λ c.
     let content = c.before.before.before.before in
     let start = content.before.before.before in
     let a = start.args in
-    content_refused a.key a.version a.s.now _ start.requires _ content.read-content.ensures.0 a.slots.now _ content.read-content.ensures.1 _ c.refused.ensures c.before.before.if1.true)
+    content_refused a.key a.version a.s.now _ start.requires _ content.read_content-end.ensures.0 a.slots.now _ content.read_content-end.ensures.1 _ c.refused.ensures c.before.before.if-end-ne0.true)
     (λ c.
     let content = c.before.before in
     let start = content.before.before.before in
     let a = start.args in
-    content_read a.key a.version a.s.now _ start.requires _ content.read-content.ensures.0 a.slots.now _ content.read-content.ensures.1 c.if1.false))
+    content_read a.key a.version a.s.now _ start.requires _ content.read_content-end.ensures.0 a.slots.now _ content.read_content-end.ensures.1 c.if-end-ne0.false))

@@ -21,20 +21,20 @@ read_decided_spec =
     (tie.spec
     (λ c κs. search rules)
     (λ c. search rules)
-    (λ c κs. c.before.before.before.before.layout_of.ensures.1)
+    (λ c κs. c.before.before.before.layout_of-picked.ensures.1)
     (λ c. search rules)
     (λ c κs. search rules)
     (λ c. search rules)
     (λ c κs. search rules)
     (λ c.
-    let at = c.before.before.before.before.before in
-    let a = at.before.before.args in
-    answered _ _ _ _ _ (decided _ _ a.key a.version a.s.now c.before.before.enum_told.given.1 at.layout_of.ensures.0) c.read-content.ensures)
-    (λ c.
     let at = c.before.before.before.before in
     let a = at.before.before.args in
-    answered _ _ _ _ _ (decided _ _ a.key a.version a.s.now c.before.enum-told2.given.1 at.layout_of.ensures.0) (c.refused.ensures, refl))
+    answered _ _ _ _ _ (decided _ _ a.key a.version a.s.now c.before.before.in-Layout.is at.layout_of-picked.ensures.0) c.read_content.ensures)
     (λ c.
-    let at = c.before.before.before.before in
+    let at = c.before.before.before in
     let a = at.before.before.args in
-    answered _ _ _ _ _ (decided _ _ a.key a.version a.s.now c.before.enum-told3.given.1 at.layout_of.ensures.0) (c.refused2.ensures, refl)))
+    answered _ _ _ _ _ (decided _ _ a.key a.version a.s.now c.before.in-UnknownKey.is at.layout_of-picked.ensures.0) (c.refused.ensures, refl))
+    (λ c.
+    let at = c.before.before.before in
+    let a = at.before.before.args in
+    answered _ _ _ _ _ (decided _ _ a.key a.version a.s.now c.before.in-UnknownVersion.is at.layout_of-picked.ensures.0) (c.refused-in-UnknownVersion.ensures, refl)))

@@ -16,13 +16,13 @@ read_whole_spec =
     (λ c. search rules)
     (λ c. search rules)
     (λ c.
-    let r = c.before.before.before in
+    let r = c.before in
     let a = r.before.before.before.args in
-    let e = rw c.before.number.given.1 at r.read.ensures in
+    let e = rw c.in-Refused.is at r.read.ensures in
     omega (arith, place_inside a.key a.version a.s.now _ _ e.0))
     (λ c κs. search rules)
     (λ c. search rules)
     (λ c κs. search rules)
-    (λ c. has_read _ _ _ (rw c.enum_told.given.1 at c.before.before.read.ensures))
-    (λ c. has_refused _ _ _ _ _ _ (rw c.before.before.number.given.1 at c.before.before.before.before.read.ensures) c.refused.ensures)
-    (λ c. let a = c.before.before.before.before.before.before.before.args in has_left (read_decided (decide a.key a.version) a.s.now) _ _ _ _ (rw c.before.before.enum-told2.given.1 at c.before.before.before.before.read.ensures) c.read-decided.ensures))
+    (λ c. has_read _ _ _ (rw c.in-Frame.is at c.before.read.ensures))
+    (λ c. has_refused _ _ _ _ _ _ (rw c.before.in-Refused.is at c.before.before.read.ensures) c.refused.ensures)
+    (λ c. let a = c.before.before.before.before.before.before.args in has_left (read_decided (decide a.key a.version) a.s.now) _ _ _ _ (rw c.before.before.in-Unread.is at c.before.before.before.read.ensures) c.read_decided.ensures))

@@ -10,11 +10,11 @@ layout_at_spec =
     tie.close
     (tie.spec
     (λ c κs. search rules)
-    (λ c. as_no_key _ _ c.before.before.args.version c.layout_of.ensures.0 c.before.if1.true)
-    (λ c. omega (arith, c.before.if1.false))
+    (λ c. as_no_key _ _ c.before.before.args.version c.layout_of.ensures.0 c.before.if-key-gt65535.true)
+    (λ c. omega (arith, c.before.if-key-gt65535.false))
     (λ c κs. search rules)
-    (λ c. as_version_0 _ _ _ c.layout-of2.ensures.0 c.before.if2.true)
-    (λ c. omega (arith, c.before.if1.false))
-    (λ c. omega (arith, c.if2.false))
+    (λ c. as_version_0 _ _ _ c.layout_of-then-version-gt65535.ensures.0 c.before.if-version-gt65535.true)
+    (λ c. omega (arith, c.before.if-key-gt65535.false))
+    (λ c. omega (arith, c.if-version-gt65535.false))
     (λ c κs. search rules)
-    (λ c. (c.layout-of3.ensures.0, λ _. c.layout-of3.ensures.1)))
+    (λ c. (c.layout_of-2.ensures.0, λ _. c.layout_of-2.ensures.1)))

@@ -14,14 +14,14 @@ write_spec =
     (λ c. search rules)
     (λ c κs. search rules)
     (λ c. search rules)
-    (λ c. fast_written _ _ _ _ c.before.before.before.before.before.write.ensures _ c.before.length.given.1)
+    (λ c. fast_written _ _ _ _ c.before.before.before.write.ensures _ c.in-Length.is)
     (λ c. search rules)
-    (λ c. fast_refused _ _ _ _ c.before.before.before.before.before.write.ensures _ c.before.number.given.1)
+    (λ c. fast_refused _ _ _ _ c.before.before.before.write.ensures _ c.in-Refused.is)
     (λ c. search rules)
     (λ c.
     let any = c.before.before in
     let told = any.before.before.before in
-    let fast = told.before.before.before.before in
+    let fast = told.before.before.before in
     let start = fast.before.before.before.before in
     let a = start.args in
-    as_written a.slots.now a.src.now a.limit _ _ _ (fast_left _ _ _ _ fast.write.ensures told.enum_told.given.1) any.write-any.ensures))
+    as_written a.slots.now a.src.now a.limit _ _ _ (fast_left _ _ _ _ fast.write.ensures told.in-Unwritten.is) any.write_any.ensures))

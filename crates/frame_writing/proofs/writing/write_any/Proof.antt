@@ -21,19 +21,19 @@ write_any_spec =
     (λ c κs. search rules)
     (λ c. search rules)
     (λ c κs.
-    let told = c.before.enum_told.given.1 in
-    let at = c.before.before.before.before in
+    let told = c.before.in-Layout.is in
+    let at = c.before.before.before in
     let a = at.before.before.before.before.before.before.args in
-    picks a.slots.now _ _ at.before.before.slot.ensures at.before.slot2.ensures _ (decided _ _ _ _ _ told at.layout-at.ensures.0) (at.layout-at.ensures.1 told))
+    picks a.slots.now _ _ at.before.before.slot.ensures at.before.slot-2.ensures _ (decided _ _ _ _ _ told at.layout_at-picked.ensures.0) (at.layout_at-picked.ensures.1 told))
     (λ c. search rules)
     (λ c. search rules)
     (λ c. search rules)
     (λ c. search rules)
     (λ c.
-    let at = c.before.before.before in
+    let at = c.before.before in
     let a = at.before.before.before.before.before.before.args in
-    key_refused a.slots.now _ _ at.before.before.slot.ensures at.before.slot2.ensures a.src.now a.limit a.out.now (decided _ _ _ _ _ c.enum-told2.given.1 at.layout-at.ensures.0))
+    key_refused a.slots.now _ _ at.before.before.slot.ensures at.before.slot-2.ensures a.src.now a.limit a.out.now (decided _ _ _ _ _ c.in-UnknownKey.is at.layout_at-picked.ensures.0))
     (λ c.
-    let at = c.before.before.before in
+    let at = c.before.before in
     let a = at.before.before.before.before.before.before.args in
-    version_refused a.slots.now _ _ at.before.before.slot.ensures at.before.slot2.ensures a.src.now a.limit a.out.now (decided _ _ _ _ _ c.enum-told3.given.1 at.layout-at.ensures.0)))
+    version_refused a.slots.now _ _ at.before.before.slot.ensures at.before.slot-2.ensures a.src.now a.limit a.out.now (decided _ _ _ _ _ c.in-UnknownVersion.is at.layout_at-picked.ensures.0)))

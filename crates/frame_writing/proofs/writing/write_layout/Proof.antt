@@ -18,7 +18,7 @@ write_layout_spec =
     (λ c κs. search rules)
     (λ c.
     let o1 = c.before.before in
-    o1.out.given)
+    o1.out-1.given)
     (λ c.
     let fields = c.before.before.before in
     let begun = fields.before.before in
@@ -26,12 +26,12 @@ write_layout_spec =
     let frame = unflat_frame start.args.slots.now in
     let src = start.args.src.now in
     let listed = listed_flat start.args.slots.now start.requires.0 in
-    let pass = content_stepped start.args.slots.now src _ _ _ start.requires.1 fields.write-fields.ensures in
-    fields_refused frame src _ _ listed _ _ _ begun.measuring.ensures pass c.if1.true)
+    let pass = content_stepped start.args.slots.now src _ _ _ start.requires.1 fields.write_fields-measured.ensures in
+    fields_refused frame src _ _ listed _ _ _ begun.measuring.ensures pass c.if-number-ne0.true)
     (λ c κs. search rules)
     (λ c.
     let o1 = c.before.before.before.before in
-    o1.out.given)
+    o1.out-1.given)
     (λ c.
     let size = c.before in
     let passed = size.before in
@@ -41,9 +41,9 @@ write_layout_spec =
     let frame = unflat_frame start.args.slots.now in
     let src = start.args.src.now in
     let listed = listed_flat start.args.slots.now start.requires.0 in
-    let pass = content_stepped start.args.slots.now src _ _ _ start.requires.1 fields.write-fields.ensures in
-    let s = sized frame src start.args.limit _ listed _ _ _ begun.measuring.ensures pass passed.if1.false in
-    size_refused frame src _ _ listed _ _ _ begun.measuring.ensures pass s _ size.size-refusal.ensures c.if2.true)
+    let pass = content_stepped start.args.slots.now src _ _ _ start.requires.1 fields.write_fields-measured.ensures in
+    let s = sized frame src start.args.limit _ listed _ _ _ begun.measuring.ensures pass passed.if-number-ne0.false in
+    size_refused frame src _ _ listed _ _ _ begun.measuring.ensures pass s _ size.size_refusal-number.ensures c.if-number-ne0-2.true)
     (λ c κs. search rules)
     (λ c κs. search rules)
     (λ c κs. search rules)
@@ -52,12 +52,12 @@ write_layout_spec =
     (λ c.
     let roomy = c.before.before.before.before.before.before.before.before.before.before.before in
     let size = roomy.before in
-    omega (arith, (fits _ _ _ (sym size.size-refusal.ensures ∙ roomy.if2.false)).bound))
+    omega (arith, (fits _ _ _ (sym size.size_refusal-number.ensures ∙ roomy.if-number-ne0-2.false)).bound))
     (λ c.
     let o3 = c.before in
     let o2 = o3.before.before.before.before.before in
     let o1 = o2.before.before.before.before.before.before.before.before.before in
-    o3.out3.given ∙ o2.out2.given ∙ o1.out.given)
+    o3.out-3-1.given ∙ o2.out-2-1.given ∙ o1.out-1.given)
     (λ c.
     let second = c.before.before in
     let place = second.before.before in
@@ -73,9 +73,9 @@ write_layout_spec =
     let frame = unflat_frame start.args.slots.now in
     let src = start.args.src.now in
     let listed = listed_flat start.args.slots.now start.requires.0 in
-    let pass = content_stepped start.args.slots.now src _ _ _ start.requires.1 fields.write-fields.ensures in
-    let pass2 = content_stepped start.args.slots.now src _ _ _ start.requires.1 second.write-fields2.ensures in
-    let s = sized frame src start.args.limit _ listed _ _ _ begun.measuring.ensures pass passed.if1.false in
-    let fit = fits _ _ _ (sym size.size-refusal.ensures ∙ roomy.if2.false) in
-    let put = head_of start.args.slots.now _ _ _ _ _ _ key.slot.ensures version.slot2.ensures head.put-head.ensures in
+    let pass = content_stepped start.args.slots.now src _ _ _ start.requires.1 fields.write_fields-measured.ensures in
+    let pass2 = content_stepped start.args.slots.now src _ _ _ start.requires.1 second.write_fields.ensures in
+    let s = sized frame src start.args.limit _ listed _ _ _ begun.measuring.ensures pass passed.if-number-ne0.false in
+    let fit = fits _ _ _ (sym size.size_refusal-number.ensures ∙ roomy.if-number-ne0-2.false) in
+    let put = head_of start.args.slots.now _ _ _ _ _ _ key.slot.ensures version.slot-2.ensures head.put_head-next.ensures in
     frame_put frame src _ _ listed _ _ _ begun.measuring.ensures pass s fit.bound fit.limited fit.roomy _ _ _ _ _ put place.at_place.ensures pass2))

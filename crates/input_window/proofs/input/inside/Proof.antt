@@ -10,5 +10,5 @@ inside_spec =
     tie.close
     (tie.spec
     (λ c. search rules)
-    (λ c. ((omega arith, omega arith, refl), λ order within. absurd (omega (arith, within, c.if2.false))))
-    (λ c. ((omega arith, omega arith, refl), λ order within. absurd (omega (arith, order, c.if1.false)))))
+    (λ c. ((omega arith, omega arith, refl), λ order within. absurd (omega (arith, within, c.if-held-len.false))))
+    (λ c. ((omega arith, omega arith, refl), λ order within. absurd (omega (arith, order, c.if-from-held.false)))))

@@ -15,4 +15,4 @@ rest_spec =
     (λ c. search rules)
     (λ c. search rules)
     (λ c. search rules)
-    (λ c reads s. shown reads _ _ (placed reads _ _ _ s c.before.inside.ensures.1) ∙ ap (λ n. drop n (in_order reads)) c.before.inside.ensures.0.2))
+    (λ c reads s. shown reads _ _ (placed reads _ _ _ s c.before.inside-at.ensures.1) ∙ ap (λ n. drop n (in_order reads)) c.before.inside-at.ensures.0.2))

@@ -14,16 +14,16 @@ taken_spec =
     (tie.spec
     (λ c.
     let a = c.before.args in
-    (rw (lt-ltb a.at.held (a.at.from + a.n) (omega (arith, c.if1.true))), λ reads window s there fits. let l = left_length reads _ window s in absurd (omega (arith, l, there, c.if1.true))))
+    (rw (lt-ltb a.at.held (a.at.from + a.n) (omega (arith, c.if-held-n.true))), λ reads window s there fits. let l = left_length reads _ window s in absurd (omega (arith, l, there, c.if-held-n.true))))
     (λ c.
     let a = c.before.before.args in
-    (rw (lt-ltb a.at.held (a.at.from + a.n) (omega (arith, c.before.if1.false, c.if2.true))), λ reads window s there fits. let l = left_length reads _ window s in absurd (omega (arith, l, there, s.order, c.if2.true))))
+    (rw (lt-ltb a.at.held (a.at.from + a.n) (omega (arith, c.before.if-held-n.false, c.if-held-n-2.true))), λ reads window s there fits. let l = left_length reads _ window s in absurd (omega (arith, l, there, s.order, c.if-held-n-2.true))))
     (λ c. search rules)
     (λ c.
     let a = c.before.before.before.args in
-    (rw (le-ltb a.at.held (a.at.from + a.n) (omega (arith, c.before.before.if1.false, c.before.if2.false)), lt-ltb 0xffff_ffff_ffff_ffff (a.at.offset + a.n) (omega (arith, c.if3.true))), λ reads window s there fits. absurd (omega (arith, fits, c.if3.true))))
+    (rw (le-ltb a.at.held (a.at.from + a.n) (omega (arith, c.before.before.if-held-n.false, c.before.if-held-n-2.false)), lt-ltb 0xffff_ffff_ffff_ffff (a.at.offset + a.n) (omega (arith, c.if-offset-n.true))), λ reads window s there fits. absurd (omega (arith, fits, c.if-offset-n.true))))
     (λ c. search rules)
     (λ c. search rules)
     (λ c.
     let a = c.before.before.before.args in
-    (rw (le-ltb a.at.held (a.at.from + a.n) (omega (arith, c.before.before.if1.false, c.before.if2.false)), le-ltb 0xffff_ffff_ffff_ffff (a.at.offset + a.n) (omega (arith, c.if3.false))), λ reads window s there fits. (taken_shows reads _ window s _ there, refl))))
+    (rw (le-ltb a.at.held (a.at.from + a.n) (omega (arith, c.before.before.if-held-n.false, c.before.if-held-n-2.false)), le-ltb 0xffff_ffff_ffff_ffff (a.at.offset + a.n) (omega (arith, c.if-offset-n.false))), λ reads window s there fits. (taken_shows reads _ window s _ there, refl))))

@@ -11,4 +11,4 @@ krevilosh_chunk_next_spec =
     (tie.spec
     (λ c κs. search rules)
     (λ c κs. search rules)
-    (λ c. let asked = c.before.next-entry.ensures in (c.number_of_lem.ensures ∙ ap next_answer asked.0, asked.1)))
+    (λ c. let asked = c.before.next_entry-found.ensures in (c.number_of.ensures ∙ ap next_answer asked.0, asked.1)))

@@ -17,18 +17,18 @@ krevilosh_credit_receive_spec =
     (λ c κs. search rules)
     (λ c. search rules)
     (λ c κs.
-    let told = c.before in
-    let receive = told.before.before in
+    let told = c. in
+    let receive = told.before in
     let known = receive.before.before.before in
     let a = known.before.args in
-    received_fits a.credits.now a.bytes.now a.limit _ _ (λ i. omega (arith, known.shared-slice-known.given i)) told.read.given.1 receive.receive.ensures.1.1.1)
+    received_fits a.credits.now a.bytes.now a.limit _ _ (λ i. omega (arith, known.shared_slice_known-1.given i)) told.in-Reading.is receive.receive.ensures.1.1.1)
     (λ c. search rules)
     (λ c. search rules)
-    (λ c.
-    let told = c.before.before in
-    let receive = told.before.before in
-    (c.number_of_lem.ensures ∙ ap refusal_answer (sym (ap received_refusal told.read.given.1) ∙ receive.receive.ensures.1.1.1), (receive.receive.ensures.1.0, receive.receive.ensures.1.1.0)))
     (λ c.
     let told = c.before in
-    let receive = told.before.before in
-    (ap refusal_answer (sym (ap received_refusal told.number.given.1) ∙ receive.receive.ensures.1.1.1), (receive.receive.ensures.1.0, receive.receive.ensures.1.1.0))))
+    let receive = told.before in
+    (c.number_of.ensures ∙ ap refusal_answer (sym (ap received_refusal told.in-Reading.is) ∙ receive.receive.ensures.1.1.1), (receive.receive.ensures.1.0, receive.receive.ensures.1.1.0)))
+    (λ c.
+    let told = c. in
+    let receive = told.before in
+    (ap refusal_answer (sym (ap received_refusal told.in-Refused.is) ∙ receive.receive.ensures.1.1.1), (receive.receive.ensures.1.0, receive.receive.ensures.1.1.0))))

@@ -17,7 +17,7 @@ krevilosh_read_spec =
     (λ c κs.
     let known = c.before.before in
     let a = known.before.args in
-    needed_fits a.bytes.now a.limit c.read.result (λ i. omega (arith, known.shared-slice-known.given i)) c.read.ensures.1.1)
+    needed_fits a.bytes.now a.limit c.read-read.result (λ i. omega (arith, known.shared_slice_known-1.given i)) c.read-read.ensures.1.1)
     (λ c.
     let read = c.before in
-    (c.number_of_lem.ensures ∙ ap refusal_answer read.read.ensures.1.1, read.read.ensures.1.0)))
+    (c.number_of.ensures ∙ ap refusal_answer read.read-read.ensures.1.1, read.read-read.ensures.1.0)))

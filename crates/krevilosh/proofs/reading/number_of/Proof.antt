@@ -13,9 +13,9 @@ number_of_spec =
     (tie.spec
     (λ c. search rules)
     (λ c. search rules)
-    (λ c κs. let h = subst (λ (r : FrameRead). NeededFits (refusal_of r)) c.before.read.given.1 c.before.before.before.requires in search rules)
+    (λ c κs. let h = subst (λ (r : FrameRead). NeededFits (refusal_of r)) c.in-Short.is c.before.requires in search rules)
     (λ c. search rules)
     (λ c. search rules)
     (λ c. search rules)
-    (λ c. c.packed.ensures ∙ sym (ap (λ (r : FrameRead). refusal_answer (refusal_of r)) c.before.before.read.given.1))
+    (λ c. c.packed.ensures ∙ sym (ap (λ (r : FrameRead). refusal_answer (refusal_of r)) c.before.in-Short.is))
     (λ c. search rules))

@@ -12,16 +12,16 @@ krevilosh_write_spec =
     (λ c κs. search rules)
     (λ c. search rules)
     (λ c κs.
-    let write = c.before.before.before.before.before in
+    let write = c.before.before.before in
     let a = write.before.before.before.before.args in
-    length_below _ _ _ write.write.ensures _ a.frame.now a.source.now a.limit a.out.now c.before.length.given.1 refl)
+    length_below _ _ _ write.write.ensures _ a.frame.now a.source.now a.limit a.out.now c.in-Length.is refl)
     (λ c. search rules)
     (λ c. search rules)
-    (λ c. search rules)
-    (λ c.
-    let told = c.before.before in
-    length_told _ _ _ told.before.before.before.before.write.ensures _ _ told.length.given.1 c.packed.ensures)
     (λ c. search rules)
     (λ c.
     let told = c.before in
-    refusal_told _ _ _ told.before.before.before.before.write.ensures _ told.number.given.1))
+    length_told _ _ _ told.before.before.before.write.ensures _ _ told.in-Length.is c.packed.ensures)
+    (λ c. search rules)
+    (λ c.
+    let told = c. in
+    refusal_told _ _ _ told.before.before.before.write.ensures _ told.in-Refused.is))

@@ -12,4 +12,4 @@ put_number_and_word_spec =
     (λ c κs. search rules)
     (λ c κs. search rules)
     (λ c. search rules)
-    (λ c. let two = c.before.before in let one = two.before.before.before.before in rw (← one.put-decimal.ensures, ← two.put_word.ensures)))
+    (λ c. let two = c.before.before in let one = two.before.before.before.before in rw (← one.put_decimal-at.ensures, ← two.put_word.ensures)))

@@ -10,4 +10,4 @@ put_word_spec =
     (tie.spec
     (λ c κs. search rules)
     (λ c. search rules)
-    (λ c. put_whole _ _ _ _ c.before.before.put-bytes.ensures))
+    (λ c. put_whole _ _ _ _ c.before.before.put_bytes.ensures))

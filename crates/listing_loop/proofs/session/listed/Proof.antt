@@ -20,8 +20,8 @@ listed_spec =
     (λ c. search rules)
     (λ c. search rules)
     (λ c.
-    let stage = c.before.stage-listed in
-    let taken = c.before.before.taken in
-    let list = c.before.before.before.before.before.list in
-    let rest = c.before.before.before.before.before.before.before.rest in
+    let stage = c.before.stage_listed-stage in
+    let taken = c.before.before.taken-input in
+    let list = c.before.before.before.before.before.list-p in
+    let rest = c.before.before.before.before.before.before.before.rest-rest in
     (not_listing _ list.result.state stage.ensures, λ h on st. listed_stands h _ _ _ st on list.result _ _ _ _ _ (rest.ensures _ st.input) refl list.ensures.0 list.ensures.1 (taken.ensures.1 _ _ st.input) (omega arith) stage.ensures)))

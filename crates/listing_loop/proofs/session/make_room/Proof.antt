@@ -12,7 +12,7 @@ make_room_spec =
     (λ c κs. search rules)
     (λ c. search rules)
     (λ c.
-    let room = c.before.before.make-room in (
+    let room = c.before.before.make_room-input in (
       λ h text st. input_stands h _ _ text st _ _ (room.ensures.0 _ st.input) room.ensures.1.0,
       (refl, λ h text reading st holds. room.ensures.1.1 _ st.input (left_short h _ _ text st reading) holds),
     )))

@@ -16,7 +16,7 @@ received_spec =
     (λ c κs. search rules)
     (λ c.
     let start = c.before.before.before.before in
-    let received = c.before.received in
+    let received = c.before.received-input in
     let same = to_z-of_z {w = w64} start.ranges.got in
-    let stage = c.stage-read.ensures ∙ ap stage_read same in
+    let stage = c.stage_read-stage.ensures ∙ ap stage_read same in
     (stage, λ h text reading st. read_stands h _ _ text st reading start.args.got _ _ _ (rw same at (received.ensures.0 _ st.input start.requires)) received.ensures.1 stage)))

@@ -10,5 +10,5 @@ pub stage_read_spec : {M : Type 1} → statement M
 stage_read_spec =
     tie.close
     (tie.spec
-    (λ c. sym (ap stage_read (below w64 c.before.args.got c.before.ranges.got c.if1.true).is))
-    (λ c. sym (ap stage_read (not_below w64 c.before.args.got c.before.ranges.got c.if1.false).is)))
+    (λ c. sym (ap stage_read (below w64 c.before.args.got c.before.ranges.got c.if-got-lt0.true).is))
+    (λ c. sym (ap stage_read (not_below w64 c.before.args.got c.before.ranges.got c.if-got-lt0.false).is)))

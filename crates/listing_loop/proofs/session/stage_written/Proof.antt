@@ -9,7 +9,7 @@ pub stage_written_spec : {M : Type 1} → statement M
 stage_written_spec =
     tie.close
     (tie.spec
-    (λ c. rw (not-true c.before.args.taken c.if1.true))
+    (λ c. rw (not-true c.before.args.taken c.if-not-taken.true-raw))
     (λ c κs. search rules)
-    (λ c. rw (not-false c.before.before.before.args.taken c.before.before.if1.false, sym c.before.is-over.ensures ∙ c.if2.true))
-    (λ c. rw (not-false c.before.before.before.args.taken c.before.before.if1.false, sym c.before.is-over.ensures ∙ c.if2.false)))
+    (λ c. rw (not-false c.before.before.before.args.taken c.before.before.if-not-taken.false-raw, sym c.before.is_over.ensures ∙ c.if-is_over.true))
+    (λ c. rw (not-false c.before.before.before.args.taken c.before.before.if-not-taken.false-raw, sym c.before.is_over.ensures ∙ c.if-is_over.false)))

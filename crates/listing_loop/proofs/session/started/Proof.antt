@@ -10,4 +10,4 @@ started_spec =
     tie.close
     (tie.spec
     (λ c κs. search rules)
-    (λ c. (refl, start_stands _ c.start.ensures.0 c.start.ensures.1)))
+    (λ c. (refl, start_stands _ c.start-input.ensures.0 c.start-input.ensures.1)))

@@ -21,33 +21,33 @@ use Rattle.listing_loop.proofs.Runs.{Before, Within, nothing_read, read_then, re
 use Rattle.listing_loop.proofs.session.turns.Statement.{statement}
 use Rattle.listing_loop.proofs.session.turns.Tie as tie
 
-abbrev invariant_loop : tie.invariant_loop
+abbrev invariant_loop : tie.invariant-loop-made
 invariant_loop window₀ text₀ made₀ at₀ window text made at = Before made at window text × (length window ≡ length window₀) × (length text ≡ length text₀) × (made ≤ greatest)
 
-abbrev decreases_loop : tie.decreases_loop
+abbrev decreases_loop : tie.decreases-loop-made
 decreases_loop window₀ text₀ made₀ at₀ window text made at = greatest - made
 
 -- After the window was listed.
-listed_then : (c : tie.After-listed invariant_loop decreases_loop) → Stands c.before.before.before.before.loop.invariant.0.0 c.listed.result c.before.before.before.before.loop.window c.listed.new.1.0
-listed_then c = let inv = c.before.before.before.before.loop.invariant.0 in c.listed.ensures.1 inv.0 inv.2 inv.1
+listed_then : (c : tie.After-listed-at invariant_loop decreases_loop) → Stands c.before.before.before.before.loop.invariant.0.0 c.listed-at.result c.before.before.before.before.loop.window c.listed-at.new.1.0
+listed_then c = let inv = c.before.before.before.before.loop.invariant.0 in c.listed-at.ensures.1 inv.0 inv.2 inv.1
 
 -- After room was made.
-room_then : (c : tie.After-make-room invariant_loop decreases_loop) → Stands c.before.before.before.before.before.before.before.before.before.before.loop.invariant.0.0 c.make-room.result c.make-room.new.0 c.before.before.before.before.before.before.listed.new.1.0
-room_then c = c.make-room.ensures.0 _ _ (listed_then c.before.before.before.before.before.before)
+room_then : (c : tie.After-make_room-at invariant_loop decreases_loop) → Stands c.before.before.before.before.before.before.before.before.before.loop.invariant.0.0 c.make_room-at.result c.make_room-at.new.0 c.before.before.before.before.before.listed-at.new.1.0
+room_then c = c.make_room-at.ensures.0 _ _ (listed_then c.before.before.before.before.before)
 
-room_left : (c : tie.After-make-room invariant_loop decreases_loop) → c.make-room.result.input.held < length c.make-room.new.0
+room_left : (c : tie.After-make_room-at invariant_loop decreases_loop) → c.make_room-at.result.input.held < length c.make_room-at.new.0
 room_left c =
-    let listed = c.before.before.before.before.before.before in
+    let listed = c.before.before.before.before.before in
     let same = listed.before.before.before.before.loop.invariant.1 in
-    let roomy = listed.before.before.before.before.before.before.before.before.requires.0 in
-    c.make-room.ensures.1.1 _ _ c.before.before.enum_told.given.1 (listed_then listed) (omega (arith, same, roomy))
+    let roomy = listed.before.before.before.before.before.before.before.requires.0 in
+    c.make_room-at.ensures.1.1 _ _ c.before.before.in-Reading.is (listed_then listed) (omega (arith, same, roomy))
 
 -- A stage that is not matched is another one.
 not_read : (x : Stage) → OneOf (0 ∷ 1 ∷ 3 ∷ 4 ∷ 5 ∷ 6 ∷ []) (tag_of the_type x) → x ≡ Reading → ⊥
 not_read x k e = miss (0 ∷ 1 ∷ 3 ∷ 4 ∷ 5 ∷ 6 ∷ []) 2 tt (subst (λ (y : Stage). OneOf (0 ∷ 1 ∷ 3 ∷ 4 ∷ 5 ∷ 6 ∷ []) (tag_of the_type y)) e k)
 
 -- After a read, or none.
-joined : (c : tie.At-match-branch invariant_loop decreases_loop) → Within c.before.before.before.before.before.before.before.loop.made c.match.at c.match.window c.before.before.before.listed.new.1.0
+joined : (c : tie.Joined-stage invariant_loop decreases_loop) → Within c.before.before.before.before.before.before.before.loop.made c.match-stage.at c.match-stage.window c.before.before.before.listed-at.new.1.0
 joined c =
     ⊎_elim
     (λ w.
@@ -63,10 +63,10 @@ joined c =
     (λ w.
     let listed = c.before.before.before in
     let inv = listed.before.before.before.before.loop.invariant.0 in
-    nothing_read _ _ _ _ _ _ inv.0 (listed_then listed) inv.3 listed.listed.ensures.0 (λ e. not_read _ w.0.keys2 e) w.2 w.1)
-    c.match.branch
+    nothing_read _ _ _ _ _ _ inv.0 (listed_then listed) inv.3 listed.listed-at.ensures.0 (λ e. not_read _ w.0.keys2 e) w.2 w.1)
+    c.match-stage.branch
 
-joined_length : (c : tie.At-match-branch invariant_loop decreases_loop) → length c.match.window ≡ length c.before.before.before.before.before.before.before.before.before.before.before.args.window.now
+joined_length : (c : tie.Joined-stage invariant_loop decreases_loop) → length c.match-stage.window ≡ length c.before.before.before.before.before.before.before.before.before.before.args.window.now
 joined_length c =
     ⊎_elim
     (λ w.
@@ -74,7 +74,7 @@ joined_length c =
     let back = w.9 in
     ap length w.13 ∙ (back.given.1 ∙ (room_back.given ∙ c.before.before.before.before.before.before.before.loop.invariant.1)))
     (λ w. ap length w.1 ∙ c.before.before.before.before.before.before.before.loop.invariant.1)
-    c.match.branch
+    c.match-stage.branch
 
 pub turns_spec : {M : Type 1} → statement M
 turns_spec =
@@ -83,7 +83,7 @@ turns_spec =
     invariant_loop
     decreases_loop
     (λ c κs. tt)
-    (λ c. ((nothing_yet, c.started.ensures.1 _ _, c.started.ensures.0, omega arith), refl, refl, omega arith))
+    (λ c. ((nothing_yet, c.started-at.ensures.1 _ _, c.started-at.ensures.0, omega arith), refl, refl, omega arith))
     (λ c κs. c.before.before.before.loop.invariant.0.1.room)
     (λ c. search rules)
     (λ c κs. tt)
@@ -100,11 +100,11 @@ turns_spec =
     (λ c. joined_length c.before.before.before.before.before.before.before.before)
     (λ c. c.before.before.before.before.before.before.before.before.before.before.text.given ∙ c.before.before.before.before.before.before.before.before.before.before.before.before.before.before.before.loop.invariant.2)
     (λ c.
-    let wrote = c.before.before.wrote in
+    let wrote = c.before.before.wrote-at in
     let at = c.before.before.before.before.before.before.before.before in
     let due = sym c.before.before.before.before.before.before.before.is-listing.ensures ∙ not-true _ c.before.before.before.before.before.before.if1.true in
-    let over = sym c.before.is-listing2.ensures ∙ not-true _ c.if2.true in
-    write_over _ _ _ _ _ _ c.before.before.before.write-all.result (joined at) due c.before.before.before.before.waiting.ensures wrote.ensures.1.1 wrote.ensures.0 wrote.ensures.1.0 over)
+    let over = sym c.before.is_listing-then-not-is_listing.ensures ∙ not-true _ c.if-not-is_listing-2.true-raw in
+    write_over _ _ _ _ _ _ c.before.before.before.write_all-taken.result (joined at) due c.before.before.before.before.waiting-lines.ensures wrote.ensures.1.1 wrote.ensures.0 wrote.ensures.1.0 over)
     (λ c. search rules)
     (λ c. omega arith)
     (λ c.
@@ -114,18 +114,18 @@ turns_spec =
           let waiting = w.2 in
           let write = w.3 in
           let wrote = w.4 in
-          let due = sym c.before.is-listing.ensures ∙ not-true _ w.0.taken in
+          let due = sym c.before.is_listing.ensures ∙ not-true _ w.0.taken in
           let on = sym w.5.ensures ∙ not-false _ w.6.left in
-          let same = c.before.before.before.before.text.given in
+          let same = c.before.before.before.before.text-1.given in
           let kept = c.before.before.before.before.before.before.before.before.before.loop.invariant.2 in
-          let roomy = c.before.before.before.before.before.before.before.before.before.before.before.before.before.requires.1 in
+          let roomy = c.before.before.before.before.before.before.before.before.before.before.before.before.requires.1 in
           write_again _ _ _ _ _ _ write.result (joined at) due waiting.ensures wrote.ensures.1.1 _ (omega (arith, same, kept, roomy)) wrote.ensures.1.0 on w.7)
-          (λ w. let on = sym c.before.is-listing.ensures ∙ not-false _ w.0.left in read_again _ _ _ _ _ (joined at) on w.1)
-          c.if1.branch,
+          (λ w. let on = sym c.before.is_listing.ensures ∙ not-false _ w.0.left in read_again _ _ _ _ _ (joined at) on w.1)
+          c.if-not-is_listing.branch,
       joined_length at,
-      c.before.before.before.before.text.given ∙ c.before.before.before.before.before.before.before.before.before.loop.invariant.2,
+      c.before.before.before.before.text-1.given ∙ c.before.before.before.before.before.before.before.before.before.loop.invariant.2,
       omega arith,
     ))
-    (λ c. c.before.loop.invariant.1)
-    (λ c. c.before.loop.invariant.2)
-    (λ c. turns_over _ _ _ _ c.before.loop.invariant.0 c.loop-test.false))
+    (λ c. c.before.loop-made.invariant.1)
+    (λ c. c.before.loop-made.invariant.2)
+    (λ c. turns_over _ _ _ _ c.before.loop-made.invariant.0 c.loop-made-test.false))

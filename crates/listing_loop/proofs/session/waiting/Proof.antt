@@ -8,5 +8,5 @@ pub waiting_spec : {M : Type 1} → statement M
 waiting_spec =
     tie.close
     (tie.spec
-    (λ c. part_length _ c.before.args.text.now (search rules))
+    (λ c. part_length _ c.args.text.now (search rules))
     (λ c. search rules))

@@ -10,4 +10,4 @@ wrote_spec =
     tie.close
     (tie.spec
     (λ c κs. search rules)
-    (λ c. (refl, (c.stage-written.ensures, λ h window text e st. write_stands h _ window text st c.before.before.before.args.taken _ _ e c.stage-written.ensures))))
+    (λ c. (refl, (c.stage_written-stage.ensures, λ h window text e st. write_stands h _ window text st c.before.before.before.args.taken _ _ e c.stage_written-stage.ensures))))

@@ -11,4 +11,4 @@ closed_spec =
     (λ c κs. search rules)
     (λ c κs. search rules)
     (λ c. search rules)
-    (λ c. halted_at _ _ _ _ _ _ _ _ c.before.before.before.closing-line.ensures c.halt.ensures))
+    (λ c. halted_at _ _ _ _ _ _ _ _ c.before.before.before.closing_line-next.ensures c.halt.ensures))

@@ -10,5 +10,5 @@ too_long_spec =
     tie.close
     (tie.spec
     (λ c. search rules)
-    (λ c. offset_long _ _ _ c.if1.true)
-    (λ c. frames_long _ _ _ _ c.before.ranges.offset.fits c.before.ranges.frames.fits c.if1.false refl))
+    (λ c. offset_long _ _ _ c.if-offset-total.true)
+    (λ c. frames_long _ _ _ _ c.before.ranges.offset.fits c.before.ranges.frames.fits c.if-offset-total.false refl))

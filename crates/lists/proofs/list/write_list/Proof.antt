@@ -19,30 +19,30 @@ use borrow.Author.Rules.{rules}
 use Rattle.lists.proofs.list.write_list.Statement.{statement}
 use Rattle.lists.proofs.list.write_list.Tie as tie
 
-abbrev asked : (c : tie.After-list-refusal) → Encoding
+abbrev asked : (c : tie.After-list_refusal-number) → Encoding
 asked c = let a = c.before.before.before.before.before.before.before.args in write_field (list_of a.kind) a.src.now (list_field a.list)
 
-written : (c : tie.Else3) → let a = c.before.before.before.before.before.before.before.before.args in let l = a.list in (outside l.place a.src.now ≡ false) × (asked c.before ≡ wrote (digits 4 l.count ++ bytes_at a.src.now l.place))
-written c = not_refused c.before.before.before.before.before.before.before.before.args.kind.rule _ _ _ _ (sym c.before.list-refusal.ensures ∙ c.if3.false)
+written : (c : tie.Else-number-ne0) → let a = c.before.before.before.before.before.before.before.before.args in let l = a.list in (outside l.place a.src.now ≡ false) × (asked c.before ≡ wrote (digits 4 l.count ++ bytes_at a.src.now l.place))
+written c = not_refused c.before.before.before.before.before.before.before.before.args.kind.rule _ _ _ _ (sym c.before.list_refusal-number.ensures ∙ c.if-number-ne0.false)
 
 pub write_list_spec : {M : Type 1} → statement M
 write_list_spec =
     tie.close
     (tie.spec
-    (λ c. stays _ _ _ _ c.if1.true)
+    (λ c. stays _ _ _ _ c.if-w-ne0.true)
     (λ c κs. search rules)
     (λ c κs. search rules)
     (λ c κs. search rules)
     (λ c. search rules)
     (λ c.
     let p = c.before.before.before.before.before.before.before.before.before in
-    put_there _ _ _ _ p.before.if1.false _ _ _ p.if2.true (copied_next _ _ _ _ _ _ _ c.before.before.before.before.before.before.before.put-number.ensures c.before.before.before.put-bytes.ensures) c.at_place.ensures)
+    put_there _ _ _ _ p.before.if-w-ne0.false _ _ _ p.if-w.true (copied_next _ _ _ _ _ _ _ c.before.before.before.before.before.before.before.put_number-next.ensures c.before.before.before.put_bytes.ensures) c.at_place.ensures)
     (λ c κs. search rules)
     (λ c κs. search rules)
     (λ c.
     let l = c.before.before in
     let m = l.before in
-    measured_there _ _ _ _ m.before.if1.false _ m.if2.false (refused_with (asked l) _ _ _ (refused_as (asked l) _ l.list-refusal.ensures c.before.if3.true) c.refuse.ensures))
+    measured_there _ _ _ _ m.before.if-w-ne0.false _ m.if-w.false (refused_with (asked l) _ _ _ (refused_as (asked l) _ l.list_refusal-number.ensures c.before.if-number-ne0.true) c.refuse.ensures))
     (λ c.
     let a = c.before.before.before.before.before.before.before.before.args in
     let p = a.list.place in
@@ -53,4 +53,4 @@ write_list_spec =
     let e = c.before in
     let m = e.before.before in
     let a = m.before.before.before.before.before.before.args in
-    measured_there _ _ _ _ m.before.if1.false _ m.if2.false (counted (asked e.before) _ _ _ _ (written e).1 (with_front 4 a.list.count a.src.now a.list.place (written e).0) c.count.ensures)))
+    measured_there _ _ _ _ m.before.if-w-ne0.false _ m.if-w.false (counted (asked e.before) _ _ _ _ (written e).1 (with_front 4 a.list.count a.src.now a.list.place (written e).0) c.count.ensures)))

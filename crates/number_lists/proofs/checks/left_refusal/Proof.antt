@@ -7,5 +7,5 @@ pub left_refusal_spec : {M : Type 1} → statement M
 left_refusal_spec =
     tie.close
     (tie.spec
-    (λ c. rw (lt-ltb _ _ c.if1.true))
-    (λ c. rw (le-ltb _ _ c.if1.false)))
+    (λ c. rw (lt-ltb _ _ c.if-end-len.true))
+    (λ c. rw (le-ltb _ _ c.if-end-len.false)))

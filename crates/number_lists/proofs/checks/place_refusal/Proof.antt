@@ -13,7 +13,7 @@ place_refusal_spec =
     tie.close
     (tie.spec
     (λ c κs. search rules)
-    (λ c. rw (le-leb _ _ (ltb-false _ _ (sym c.before.is-count.ensures ∙ not-true _ c.if1.true))))
+    (λ c. rw (le-leb _ _ (ltb-false _ _ (sym c.before.is_count.ensures ∙ not-true _ c.if-not-is_count.true-raw))))
     (λ c κs. search rules)
-    (λ c. let n = c.before.before in rw (lt-leb _ _ (ltb-true _ _ (sym n.before.is-count.ensures ∙ not-false _ n.if1.false)), lt-ltb _ _ (no_room _ _ _ c.before.has_room.ensures c.if2.true)))
-    (λ c. let n = c.before.before in rw (lt-leb _ _ (ltb-true _ _ (sym n.before.is-count.ensures ∙ not-false _ n.if1.false)), le-ltb _ _ (room _ _ _ c.before.has_room.ensures c.if2.false))))
+    (λ c. let n = c.before.before in rw (lt-leb _ _ (ltb-true _ _ (sym n.before.is_count.ensures ∙ not-false _ n.if-not-is_count.false-raw)), lt-ltb _ _ (no_room _ _ _ c.before.has_room.ensures c.if-not-has_room.true-raw)))
+    (λ c. let n = c.before.before in rw (lt-leb _ _ (ltb-true _ _ (sym n.before.is_count.ensures ∙ not-false _ n.if-not-is_count.false-raw)), le-ltb _ _ (room _ _ _ c.before.has_room.ensures c.if-not-has_room.false-raw))))

@@ -12,8 +12,8 @@ count_refusal_spec =
     tie.close
     (tie.spec
     (λ c κs. search rules)
-    (λ c. rw (count_cut _ _ (no_room _ _ _ c.before.has_room.ensures c.if1.true)))
+    (λ c. rw (count_cut _ _ (no_room _ _ _ c.before.has_room.ensures c.if-not-has_room.true-raw)))
     (λ c κs. search rules)
     (λ c κs. search rules)
-    (λ c. let n = c.before.before in rw (count_negative _ _ (room _ _ _ n.before.before.has_room.ensures n.before.if1.false) _ n.count_at.ensures (ltb-false _ _ (sym c.before.is-count.ensures ∙ not-true _ c.if2.true))))
-    (λ c. let n = c.before.before in rw (count_read _ _ (room _ _ _ n.before.before.has_room.ensures n.before.if1.false) _ n.count_at.ensures (ltb-true _ _ (sym c.before.is-count.ensures ∙ not-false _ c.if2.false)))))
+    (λ c. let n = c.before.before in rw (count_negative _ _ (room _ _ _ n.before.before.has_room.ensures n.before.if-not-has_room.false-raw) _ n.count_at.ensures (ltb-false _ _ (sym c.before.is_count.ensures ∙ not-true _ c.if-not-is_count.true-raw))))
+    (λ c. let n = c.before.before in rw (count_read _ _ (room _ _ _ n.before.before.has_room.ensures n.before.if-not-has_room.false-raw) _ n.count_at.ensures (ltb-true _ _ (sym c.before.is_count.ensures ∙ not-false _ c.if-not-is_count.false-raw)))))

@@ -7,22 +7,22 @@ use borrow.Author.Rules.{rules}
 use Rattle.number_lists.proofs.fixed.fixed_end.Statement.{statement}
 use Rattle.number_lists.proofs.fixed.fixed_end.Tie as tie
 
-all : (c : tie.Else4) → let a = c.before.before.before.before.args in a.count * a.width ≤ a.len - a.at
+all : (c : tie.Else-whole-count) → let a = c.before.before.before.before.args in a.count * a.width ≤ a.len - a.at
 all c =
     let a = c.before.before.before.before.args in
-    omega (arith, mul-le-mul_right a.width c.if4.false, div-mul-le_self (a.len - a.at) a.width)
+    omega (arith, mul-le-mul_right a.width c.if-whole-count.false, div-mul-le_self (a.len - a.at) a.width)
 
 pub fixed_end_spec : {M : Type 1} → statement M
 fixed_end_spec =
     tie.close
     (tie.spec
-    (λ c. none_asked _ _ _ _ c.if1.true)
-    (λ c. no_width _ _ _ _ c.before.if1.false c.if2.true)
-    (λ c. outside _ _ _ _ c.before.before.if1.false c.if3.true)
+    (λ c. none_asked _ _ _ _ c.if-count-eq0.true)
+    (λ c. no_width _ _ _ _ c.before.if-count-eq0.false c.if-width-eq0.true)
+    (λ c. outside _ _ _ _ c.before.before.if-count-eq0.false c.if-len-at.true)
     (λ c. search rules)
     (λ c. let a = c.before.before.before.before.args in omega (arith, div-mul-le_self (a.len - a.at) a.width))
     (λ c. let a = c.before.before.before.before.args in omega (arith, div-mul-le_self (a.len - a.at) a.width))
-    (λ c. too_few _ _ _ _ c.if4.true)
+    (λ c. too_few _ _ _ _ c.if-whole-count.true)
     (λ c. omega (arith, all c))
     (λ c. omega (arith, all c))
-    (λ c. enough _ _ _ _ c.if4.false))
+    (λ c. enough _ _ _ _ c.if-whole-count.false))

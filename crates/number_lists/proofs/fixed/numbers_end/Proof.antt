@@ -13,11 +13,11 @@ use borrow.Author.Rules.{rules}
 use Rattle.number_lists.proofs.fixed.numbers_end.Statement.{statement}
 use Rattle.number_lists.proofs.fixed.numbers_end.Tie as tie
 
-counted : (c : tie.Else1) → let a = c.before.before.before.args in (a.at + 4 ≤ length a.s.now) × (read_count a.s.now a.at ≡ got (number_or_zero 4 a.s.now a.at) (a.at + 4))
-counted c = count_there _ _ _ c.before.count-refusal.ensures c.if1.false
+counted : (c : tie.Else-number-ne0) → let a = c.before.before.before.args in (a.at + 4 ≤ length a.s.now) × (read_count a.s.now a.at ≡ got (number_or_zero 4 a.s.now a.at) (a.at + 4))
+counted c = count_there _ _ _ c.before.count_refusal-number.ensures c.if-number-ne0.false
 
-known : (c : tie.After-fixed-end) → let a = c.before.before.before.before.before.before.args in c.fixed-end.result ≡ fixed_end (length a.s.now) (a.at + 4) (width_of a.width) (number_or_zero 4 a.s.now a.at)
-known c = rw (c.before.before.bytes.ensures, c.before.count_at.ensures) at c.fixed-end.ensures
+known : (c : tie.After-fixed_end) → let a = c.before.before.before.before.before.before.args in c.fixed_end.result ≡ fixed_end (length a.s.now) (a.at + 4) (width_of a.width) (number_or_zero 4 a.s.now a.at)
+known c = rw (c.before.before.bytes.ensures, c.before.count_at.ensures) at c.fixed_end.ensures
 
 pub numbers_end_spec : {M : Type 1} → statement M
 unfolding Bytes
@@ -26,7 +26,7 @@ numbers_end_spec =
     (tie.spec
     (λ c κs. search rules)
     (λ c κs. search rules)
-    (λ c. rw (list_refused _ _ _ _ _ (count_refused _ _ _ c.before.before.count-refusal.ensures c.before.if1.true)) c.refuse.ensures)
+    (λ c. rw (list_refused _ _ _ _ _ (count_refused _ _ _ c.before.before.count_refusal-number.ensures c.before.if-number-ne0.true)) c.refuse.ensures)
     (λ c. omega (arith, (counted c).0))
     (λ c κs. search rules)
     (λ c κs. search rules)
@@ -36,12 +36,12 @@ numbers_end_spec =
     (λ c. search rules)
     (λ c κs. search rules)
     (λ c.
-    let f = c.before.before.before.before in
+    let f = c.before.before in
     let l = f.before.before.before in
     let a = l.before.before.before.args in
-    list_stops _ _ _ _ _ _ (counted l).1 (c.after.ensures ∙ numbers_end a.s.now (λ i. omega (arith, l.before.before.shared-slice-known.given i)) a.width _ _ _ (sym c.before.before.last.given.1 ∙ known f)))
+    list_stops _ _ _ _ _ _ (counted l).1 (c.after.ensures ∙ numbers_end a.s.now (λ i. omega (arith, l.before.before.shared_slice_known-1.given i)) a.width _ _ _ (sym c.before.in-End.is ∙ known f)))
     (λ c.
-    let f = c.before.before.before.before in
+    let f = c.before.before in
     let l = f.before.before.before in
     let a = l.before.before.before.args in
-    list_stops _ _ _ _ _ _ (counted l).1 (c.refuse2.ensures ∙ numbers_cut a.s.now (λ i. omega (arith, l.before.before.shared-slice-known.given i)) a.width _ _ _ (sym c.before.before.first.given.1 ∙ known f))))
+    list_stops _ _ _ _ _ _ (counted l).1 (c.refuse-in-Cut.ensures ∙ numbers_cut a.s.now (λ i. omega (arith, l.before.before.shared_slice_known-1.given i)) a.width _ _ _ (sym c.before.in-Cut.is ∙ known f))))

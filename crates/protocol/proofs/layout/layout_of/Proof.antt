@@ -9,20 +9,20 @@ layout_of_spec =
     (tie.spec
     (λ c κs. tt)
     (λ c κs. tt)
-    (λ c. no_key _ _ _ c.before.before.before.before.layouts-of.ensures _ c.before.if1.true c.decision.ensures)
+    (λ c. no_key _ _ _ c.before.before.before.before.layouts_of-listed.ensures _ c.before.if-versions-eq0.true c.decision.ensures)
     (λ c κs. tt)
     (λ c.
     let listed = c.before.before in
-    is_first _ _ _ listed.before.before.before.layouts-of.ensures _ listed.if1.false c.before.if2.true c.decision2.ensures)
+    is_first _ _ _ listed.before.before.before.layouts_of-listed.ensures _ listed.if-versions-eq0.false c.before.if-version-eq1.true c.decision-then-version-eq1.ensures)
     (λ c κs. tt)
     (λ c.
     let listed = c.before.before.before in
-    not_first _ _ _ listed.before.before.before.layouts-of.ensures _ listed.if1.false c.before.before.if2.false c.before.if3.true c.decision3.ensures)
+    not_first _ _ _ listed.before.before.before.layouts_of-listed.ensures _ listed.if-versions-eq0.false c.before.before.if-version-eq1.false c.before.if-versions-eq1.true c.decision-then-versions-eq1.ensures)
     (λ c κs. tt)
     (λ c.
     let listed = c.before.before.before.before in
-    is_second _ _ _ listed.before.before.before.layouts-of.ensures _ listed.if1.false c.before.before.before.if2.false c.before.before.if3.false c.before.if4.true c.decision4.ensures)
+    is_second _ _ _ listed.before.before.before.layouts_of-listed.ensures _ listed.if-versions-eq0.false c.before.before.before.if-version-eq1.false c.before.before.if-versions-eq1.false c.before.if-version-eq2.true c.decision-then-version-eq2.ensures)
     (λ c κs. tt)
     (λ c.
     let listed = c.before.before.before.before in
-    not_second _ _ _ listed.before.before.before.layouts-of.ensures _ listed.if1.false c.before.before.before.if2.false c.before.before.if3.false c.before.if4.false c.decision5.ensures))
+    not_second _ _ _ listed.before.before.before.layouts_of-listed.ensures _ listed.if-versions-eq0.false c.before.before.before.if-version-eq1.false c.before.before.if-versions-eq1.false c.before.if-version-eq2.false c.decision-2.ensures))

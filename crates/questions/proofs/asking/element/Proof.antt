@@ -15,23 +15,23 @@ use borrow.Author.Rules.{rules}
 use Rattle.questions.proofs.asking.element.Statement.{statement}
 use Rattle.questions.proofs.asking.element.Tie as tie
 
-inside : (c : tie.Else1) → let a = c.before.before.before.before.args in outside a.list.place a.s.now ≡ false
-inside c = sym c.before.is-outside.ensures ∙ c.if1.false
+inside : (c : tie.Else-is_outside) → let a = c.before.before.before.before.args in outside a.list.place a.s.now ≡ false
+inside c = sym c.before.is_outside.ensures ∙ c.if-is_outside.false
 
-within : (c : tie.Else1) → let a = c.before.before.before.before.args in a.list.place.at + a.list.place.len ≤ length a.s.now
-within c = let a = c.before.before.before.before.args in ends_inside a.s.now a.list.place _ c.before.is-outside.ensures c.if1.false
+within : (c : tie.Else-is_outside) → let a = c.before.before.before.before.args in a.list.place.at + a.list.place.len ≤ length a.s.now
+within c = let a = c.before.before.before.before.args in ends_inside a.s.now a.list.place _ c.before.is_outside.ensures c.if-is_outside.false
 
 -- Where the elements before it end.
-before : (c : tie.After-elements-end) → let a = c.before.before.before.before.before.before.before.before.before.args in c.elements-end.result ≡ stop (repeated (read_row (element_row a.kind)) a.index (bytes_at a.s.now a.list.place) 0)
-before c = let a = c.before.before.before.before.before.before.before.before.before.args in rw (lent a.s.now a.list.place.at a.list.place.len) at c.elements-end.ensures
+before : (c : tie.After-elements_end-before) → let a = c.before.before.before.before.before.before.before.before.before.args in c.elements_end-before.result ≡ stop (repeated (read_row (element_row a.kind)) a.index (bytes_at a.s.now a.list.place) 0)
+before c = let a = c.before.before.before.before.before.before.before.before.before.args in rw (lent a.s.now a.list.place.at a.list.place.len) at c.elements_end-before.ensures
 
 pub element_spec : {M : Type 1} → statement M
 element_spec =
     tie.close
     (tie.spec
     (λ c κs. search rules)
-    (λ c. let a = c.before.before.before.before.args in element_outside (element_row a.kind) a.s.now a.list.count a.list.place a.index _ (sym c.before.is-outside.ensures ∙ c.if1.true))
-    (λ c. let l = c.before.before in let a = l.before.before.before.before.args in element_beyond (element_row a.kind) a.s.now a.list.count a.list.place a.index (inside l) _ c.if2.true)
+    (λ c. let a = c.before.before.before.before.args in element_outside (element_row a.kind) a.s.now a.list.count a.list.place a.index _ (sym c.before.is_outside.ensures ∙ c.if-is_outside.true))
+    (λ c. let l = c.before.before in let a = l.before.before.before.before.args in element_beyond (element_row a.kind) a.s.now a.list.count a.list.place a.index (inside l) _ c.if-list-index.true)
     (λ c. omega (arith, within c.before.before.before))
     (λ c. search rules)
     (λ c. search rules)
@@ -41,11 +41,11 @@ element_spec =
     let e = c.before.before in
     let l = e.before.before.before.before.before in
     let a = l.before.before.before.before.args in
-    element_before (element_row a.kind) a.s.now a.list.count a.list.place a.index (inside l) e.before.before.before.if2.false _ (before e) _ c.if3.true)
+    element_before (element_row a.kind) a.s.now a.list.count a.list.place a.index (inside l) e.before.before.before.if-list-index.false _ (before e) _ c.if-before-ne0.true)
     (λ c κs. search rules)
     (λ c.
     let t = c.before.before in
     let e = t.before.before in
     let l = e.before.before.before.before.before in
     let a = l.before.before.before.before.args in
-    element_found (element_row a.kind) a.s.now a.list.count a.list.place a.index (inside l) e.before.before.before.if2.false _ (before e) _ _ _ t.if3.false c.read-element.ensures.0 c.read-element.ensures.1))
+    element_found (element_row a.kind) a.s.now a.list.count a.list.place a.index (inside l) e.before.before.before.if-list-index.false _ (before e) _ _ _ t.if-before-ne0.false c.read_element-found.ensures.0 c.read_element-found.ensures.1))

@@ -16,6 +16,6 @@ message_spec =
     (λ c. search rules)
     (λ c. search rules)
     (λ c.
-    let found = c.before.before in
-    c.part.ensures ∙ ap (message_part _) (ap place_answer (sym found.place.given.1) ∙ found.before.before.message-in.ensures))
-    (λ c. ap (message_part _) (ap place_answer (sym c.before.enum_told.given.1) ∙ c.before.before.before.message-in.ensures)))
+    let found = c.before in
+    c.part.ensures ∙ ap (message_part _) (ap place_answer (sym found.in-Place.is) ∙ found.before.message_in.ensures))
+    (λ c. ap (message_part _) (ap place_answer (sym c.enum_told.given.1) ∙ c.before.before.message-in.ensures)))

@@ -13,5 +13,5 @@ message_refusal_spec =
     (λ c κs. search rules)
     (λ c. search rules)
     (λ c. search rules)
-    (λ c. ap number_of (ap place_answer (sym c.enum_told.given.1) ∙ c.before.before.message-in.ensures))
-    (λ c. ap number_of (ap place_answer (sym c.before.number.given.1) ∙ c.before.before.before.message-in.ensures)))
+    (λ c. ap number_of (ap place_answer (sym c.in-Place.is) ∙ c.before.message_in.ensures))
+    (λ c. ap number_of (ap place_answer (sym c.in-Refused.is) ∙ c.before.message_in.ensures)))

@@ -30,4 +30,4 @@ append_spec =
     let a = c.before.before.before.before.before.before.before.args in
     let whole : length a.self.slots ≡ 24 = search rules in
     let fits : a.self.used + length a.values.now ≤ 24 = omega arith in
-    rw (c.before.put-slots.ensures, all_fit a.self.slots a.self.used a.values.now (omega (arith, whole)), le-leb _ _ fits)))
+    rw (c.before.put_slots.ensures, all_fit a.self.slots a.self.used a.values.now (omega (arith, whole)), le-leb _ _ fits)))

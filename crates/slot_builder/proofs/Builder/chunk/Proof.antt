@@ -12,4 +12,4 @@ chunk_spec =
     (λ c κs. search rules)
     (λ c. search rules)
     (λ c κs. search rules)
-    (λ c. (c.append.ensures ∙ ap (appended c.before.before.before.before.before.args.self) c.before.before.flat-chunk.ensures.0, c.before.before.flat-chunk.ensures.1)))
+    (λ c. (c.append.ensures ∙ ap (appended c.before.before.before.before.before.args.self) c.before.before.flat_chunk-values.ensures.0, c.before.before.flat_chunk-values.ensures.1)))

@@ -11,4 +11,4 @@ nullable_spec =
     (tie.spec
     (λ c κs. search rules)
     (λ c κs. search rules)
-    (λ c. c.place.ensures ∙ ap (appended c.before.before.args.self) c.before.place-or-null.ensures))
+    (λ c. c.place.ensures ∙ ap (appended c.before.before.args.self) c.before.place_or_null.ensures))

@@ -12,4 +12,4 @@ offset_spec =
     (λ c κs. search rules)
     (λ c. search rules)
     (λ c κs. search rules)
-    (λ c. (c.append.ensures ∙ ap (appended c.before.before.before.args.self) c.before.before.flat-offset.ensures.0, c.before.before.flat-offset.ensures.1)))
+    (λ c. (c.append.ensures ∙ ap (appended c.before.before.before.args.self) c.before.before.flat_offset-s.ensures.0, c.before.before.flat_offset-s.ensures.1)))

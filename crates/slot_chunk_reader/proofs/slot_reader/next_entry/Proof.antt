@@ -16,11 +16,11 @@ next_entry_spec =
     (λ c. search rules)
     (λ c κs. search rules)
     (λ c.
-    let told = c.before.before in
-    let advance = told.before.before in
-    let a = advance.before.before.before.before.args in
-    next_message a.chunk.now a.reader.now a.entry.now _ advance.advance.ensures _ _ told.found.given.1 c.place-slots.ensures)
+    let told = c.before in
+    let advance = told.before in
+    let a = advance.before.before.before.before.before.args in
+    next_message a.chunk.now a.reader.now a.entry.now _ advance.advance-next.ensures _ _ told.in-Message.is c.place_slots.ensures)
     (λ c.
     let advance = c.before in
-    let a = advance.before.before.before.before.args in
-    next_none a.chunk.now a.reader.now a.entry.now _ advance.advance.ensures c.match.keys2))
+    let a = advance.before.before.before.before.before.args in
+    next_none a.chunk.now a.reader.now a.entry.now _ advance.advance-next.ensures c.in_default.in_default-own.keys2))

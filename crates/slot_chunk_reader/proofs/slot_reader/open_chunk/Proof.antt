@@ -11,8 +11,8 @@ open_chunk_spec =
     (λ c κs. search rules)
     (λ c. search rules)
     (λ c.
-    let start = c.before.before.before in
-    open_refused _ _ _ start.start.ensures _ c.before.found.given.1)
+    let start = c.before in
+    open_refused _ _ _ start.start-first.ensures _ c.in-Refused.is)
     (λ c.
     let start = c.before.before in
-    open_ready _ start.before.before.args.reader.now _ start.start.ensures c.before.match.keys2))
+    open_ready _ start.before.before.args.reader.now _ start.start-first.ensures c.before.in_default.in_default-own.keys2))

@@ -8,6 +8,6 @@ pub asked_entries_spec : {M : Type 1} → statement M
 asked_entries_spec =
     tie.close
     (tie.spec
-    (λ c. rw (lt-ltb _ _ c.if1.true))
-    (λ c. record { fits = omega (arith, c.if1.false) })
-    (λ c. rw (le-ltb _ _ c.if1.false)))
+    (λ c. rw (lt-ltb _ _ c.if-entries-gt65535.true))
+    (λ c. record { fits = omega (arith, c.if-entries-gt65535.false) })
+    (λ c. rw (le-ltb _ _ c.if-entries-gt65535.false)))

@@ -21,16 +21,16 @@ element_spec =
     (λ c. search rules)
     (λ c. search rules)
     (λ c.
-    let kind = c.before.before in
+    let kind = c.before in
     let start = kind.before.before in
     let a = start.args in
-    let none-such = sym (ap kind_in c.enum_told.given.1) ∙ kind.kind-of.ensures in
+    let none-such = sym (ap kind_in c.in_default.is) ∙ kind.kind_of.ensures in
     (ap (λ (o : Option Element). number_of (ask_element o a.source.now a.count (place a.at a.length) a.index)) none-such, ap (λ (o : Option Element). asked_slots a.element.now (ask_element o a.source.now a.count (place a.at a.length) a.index)) none-such))
     (λ c κs. search rules)
     (λ c. search rules)
     (λ c.
-    let known = c.before.before.before in
-    let kind = known.before.before in
+    let known = c.before.before in
+    let kind = known.before in
     let start = kind.before.before in
     let a = start.args in
-    element_asked known.kind.given.0.0 (shape_of a.shape) a.source.now a.count (place a.at a.length) a.index a.element.now _ _ (sym (ap kind_in known.kind.given.1) ∙ kind.kind-of.ensures) c.element.ensures.0 c.element.ensures.1))
+    element_asked known.in-Kind.kind (shape_of a.shape) a.source.now a.count (place a.at a.length) a.index a.element.now _ _ (sym (ap kind_in known.in-Kind.is) ∙ kind.kind_of.ensures) c.element.ensures.0 c.element.ensures.1))

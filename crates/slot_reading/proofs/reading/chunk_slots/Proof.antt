@@ -37,24 +37,20 @@ header_slots s at base bytes m t e r ts ep fo ck dl tl bs rv dl2 a b c d f g h i
     let sum : base + (at + 48) ≡ base + at + 48 = omega arith in
     rw (a, b, c, d, f, g, h, i, j, k, l, n, o, same, sum)
 
-bytes : (c : tie.After-shared-slice-known) → Bytes c.before.args.s.now
+bytes : (c : tie.After-shared_slice_known-1) → Bytes c.before.args.s.now
 unfolding Bytes
-bytes c i = omega (arith, c.shared-slice-known.given i)
+bytes c i = omega (arith, c.shared_slice_known-1.given i)
 
 pub chunk_slots_spec : {M : Type 1} → statement M
 chunk_slots_spec =
     tie.close
     (tie.spec
     (λ c κs. search rules)
-    (λ c. let a = c.before.before.args in omega (arith, fits a.s.now a.at c.before.before.requires.0 1 _ _ (bytes c.before) (omega arith) c.number-or-zero.ensures))
+    (λ c. let a = c.before.before.args in omega (arith, fits a.s.now a.at c.before.before.requires.0 1 _ _ (bytes c.before) (omega arith) c.number_or_zero.ensures))
     (λ c κs. search rules)
     (λ c. search rules)
     (λ c κs. search rules)
-    (λ c. let k = c.before.before.before in let a = k.before.args in omega (arith, fits a.s.now a.at k.before.requires.0 1 _ _ (bytes k) (inside _ 1 1 (lit≤ tt)) c.number-or-zero2.ensures))
-    (λ c κs. search rules)
-    (λ c. search rules)
-    (λ c κs. search rules)
-    (λ c. search rules)
+    (λ c. let k = c.before.before.before in let a = k.before.args in omega (arith, fits a.s.now a.at k.before.requires.0 1 _ _ (bytes k) (inside _ 1 1 (lit≤ tt)) c.number_or_zero-2.ensures))
     (λ c κs. search rules)
     (λ c. search rules)
     (λ c κs. search rules)
@@ -64,7 +60,11 @@ chunk_slots_spec =
     (λ c κs. search rules)
     (λ c. search rules)
     (λ c κs. search rules)
-    (λ c. let k = c.before.before.before.before.before.before.before.before.before.before in let a = k.before.args in omega (arith, fits a.s.now a.at k.before.requires.0 4 _ _ (bytes k) (inside _ 32 4 (lit≤ tt)) c.number-or-zero8.ensures))
+    (λ c. search rules)
+    (λ c κs. search rules)
+    (λ c. search rules)
+    (λ c κs. search rules)
+    (λ c. let k = c.before.before.before.before.before.before.before.before.before.before in let a = k.before.args in omega (arith, fits a.s.now a.at k.before.requires.0 4 _ _ (bytes k) (inside _ 32 4 (lit≤ tt)) c.number_or_zero-8.ensures))
     (λ c κs. search rules)
     (λ c. search rules)
     (λ c κs. search rules)
@@ -82,16 +82,16 @@ chunk_slots_spec =
     let k = c.before.before.before.before.before.before.before.before.before.before.before.before.before.before.before.before in
     let a = k.before.args in
     header_slots a.s.now a.at a.base (bytes k) _ _ _ _ _ _ _ _ _ _ _ _ _
-    (c.before.before.before.before.before.before.before.before.before.before.before.before.before.before.widened8.ensures ∙ ap (λ (x : ℕ). bits (signed 1 x)) (there a.s.now a.at k.before.requires.0 1 _ _ (omega arith) c.before.before.before.before.before.before.before.before.before.before.before.before.before.before.before.number-or-zero.ensures))
-    (c.before.before.before.before.before.before.before.before.before.before.before.before.widened82.ensures ∙ ap (λ (x : ℕ). bits (signed 1 x)) (there a.s.now a.at k.before.requires.0 1 _ _ (inside _ 1 1 (lit≤ tt)) c.before.before.before.before.before.before.before.before.before.before.before.before.before.number-or-zero2.ensures))
-    (there a.s.now a.at k.before.requires.0 2 _ _ (inside _ 2 2 (lit≤ tt)) c.before.before.before.before.before.before.before.before.before.before.before.number-or-zero3.ensures)
-    (there a.s.now a.at k.before.requires.0 4 _ _ (inside _ 4 4 (lit≤ tt)) c.before.before.before.before.before.before.before.before.before.before.number-or-zero4.ensures)
-    (there a.s.now a.at k.before.requires.0 8 _ _ (inside _ 8 8 (lit≤ tt)) c.before.before.before.before.before.before.before.before.before.number-or-zero5.ensures)
-    (there a.s.now a.at k.before.requires.0 8 _ _ (inside _ 16 8 (lit≤ tt)) c.before.before.before.before.before.before.before.before.number-or-zero6.ensures)
-    (there a.s.now a.at k.before.requires.0 8 _ _ (inside _ 24 8 (lit≤ tt)) c.before.before.before.before.before.before.before.number-or-zero7.ensures)
-    (c.before.before.before.before.before.widened32.ensures ∙ ap (λ (x : ℕ). bits (signed 4 x)) (there a.s.now a.at k.before.requires.0 4 _ _ (inside _ 32 4 (lit≤ tt)) c.before.before.before.before.before.before.number-or-zero8.ensures))
-    (there a.s.now a.at k.before.requires.0 4 _ _ (inside _ 36 4 (lit≤ tt)) c.before.before.before.before.number-or-zero9.ensures)
-    (there a.s.now a.at k.before.requires.0 4 _ _ (inside _ 40 4 (lit≤ tt)) c.before.before.before.number-or-zero10.ensures)
-    (there a.s.now a.at k.before.requires.0 1 _ _ (inside _ 44 1 (lit≤ tt)) c.before.before.number-or-zero11.ensures)
-    (there a.s.now a.at k.before.requires.0 3 _ _ (inside _ 45 3 (lit≤ tt)) c.before.number-or-zero12.ensures)
-    (there a.s.now a.at k.before.requires.0 4 _ _ (inside _ 36 4 (lit≤ tt)) c.number-or-zero13.ensures)))
+    (c.before.before.before.before.before.before.before.before.before.before.before.before.before.before.widened8.ensures ∙ ap (λ (x : ℕ). bits (signed 1 x)) (there a.s.now a.at k.before.requires.0 1 _ _ (omega arith) c.before.before.before.before.before.before.before.before.before.before.before.before.before.before.before.number_or_zero.ensures))
+    (c.before.before.before.before.before.before.before.before.before.before.before.before.widened8-2.ensures ∙ ap (λ (x : ℕ). bits (signed 1 x)) (there a.s.now a.at k.before.requires.0 1 _ _ (inside _ 1 1 (lit≤ tt)) c.before.before.before.before.before.before.before.before.before.before.before.before.before.number_or_zero-2.ensures))
+    (there a.s.now a.at k.before.requires.0 2 _ _ (inside _ 2 2 (lit≤ tt)) c.before.before.before.before.before.before.before.before.before.before.before.number_or_zero-3.ensures)
+    (there a.s.now a.at k.before.requires.0 4 _ _ (inside _ 4 4 (lit≤ tt)) c.before.before.before.before.before.before.before.before.before.before.number_or_zero-4.ensures)
+    (there a.s.now a.at k.before.requires.0 8 _ _ (inside _ 8 8 (lit≤ tt)) c.before.before.before.before.before.before.before.before.before.number_or_zero-5.ensures)
+    (there a.s.now a.at k.before.requires.0 8 _ _ (inside _ 16 8 (lit≤ tt)) c.before.before.before.before.before.before.before.before.number_or_zero-6.ensures)
+    (there a.s.now a.at k.before.requires.0 8 _ _ (inside _ 24 8 (lit≤ tt)) c.before.before.before.before.before.before.before.number_or_zero-7.ensures)
+    (c.before.before.before.before.before.widened32.ensures ∙ ap (λ (x : ℕ). bits (signed 4 x)) (there a.s.now a.at k.before.requires.0 4 _ _ (inside _ 32 4 (lit≤ tt)) c.before.before.before.before.before.before.number_or_zero-8.ensures))
+    (there a.s.now a.at k.before.requires.0 4 _ _ (inside _ 36 4 (lit≤ tt)) c.before.before.before.before.number_or_zero-9.ensures)
+    (there a.s.now a.at k.before.requires.0 4 _ _ (inside _ 40 4 (lit≤ tt)) c.before.before.before.number_or_zero-10.ensures)
+    (there a.s.now a.at k.before.requires.0 1 _ _ (inside _ 44 1 (lit≤ tt)) c.before.before.number_or_zero-11.ensures)
+    (there a.s.now a.at k.before.requires.0 3 _ _ (inside _ 45 3 (lit≤ tt)) c.before.number_or_zero-12.ensures)
+    (there a.s.now a.at k.before.requires.0 4 _ _ (inside _ 36 4 (lit≤ tt)) c.number_or_zero-13.ensures)))

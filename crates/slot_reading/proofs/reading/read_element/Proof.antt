@@ -14,10 +14,10 @@ use borrow.Author.Rules.{rules}
 use Rattle.slot_reading.proofs.reading.read_element.Statement.{statement}
 use Rattle.slot_reading.proofs.reading.read_element.Tie as tie
 
-inside : (c : tie.Else1) → let a = c.before.before.before.args in outside a.list a.s.now ≡ false
-inside c = sym c.before.is-outside.ensures ∙ c.if1.false
+inside : (c : tie.Else-is_outside) → let a = c.before.before.before.args in outside a.list a.s.now ≡ false
+inside c = sym c.before.is_outside.ensures ∙ c.if-is_outside.false
 
-within : (c : tie.Else1) → let a = c.before.before.before.args in a.list.at + a.list.len ≤ length a.s.now
+within : (c : tie.Else-is_outside) → let a = c.before.before.before.args in a.list.at + a.list.len ≤ length a.s.now
 within c = ltb-false _ _ (inside c)
 
 pub read_element_spec : {M : Type 1} → statement M
@@ -27,7 +27,7 @@ read_element_spec =
     (tie.spec
     (λ c κs. search rules)
     (λ c κs. search rules)
-    (λ c. let a = c.before.before.before.before.args in element_outside a.kind a.s.now a.list a.at _ _ (sym c.before.before.is-outside.ensures ∙ c.before.if1.true) c.refuse.ensures)
+    (λ c. let a = c.before.before.before.before.args in element_outside a.kind a.s.now a.list a.at _ _ (sym c.before.before.is_outside.ensures ∙ c.before.if-is_outside.true) c.refuse.ensures)
     (λ c. omega (arith, within c.before))
     (λ c. search rules)
     (λ c. search rules)
@@ -42,11 +42,11 @@ read_element_spec =
     let r = c.before.before.before in
     let l = r.before.before.before.before.before in
     let a = l.before.before.before.args in
-    let f = r.before.before.element-fields.ensures.0 in
-    element_refused a.kind a.s.now a.list a.at (inside l) _ (rw (lent a.s.now a.list.at a.list.len, f) at r.read-fields.ensures.0) _ c.if2.true)
+    let f = r.before.before.element_fields.ensures.0 in
+    element_refused a.kind a.s.now a.list a.at (inside l) _ (rw (lent a.s.now a.list.at a.list.len, f) at r.read_fields-last.ensures.0) _ c.if-last-ne0.true)
     (λ c.
     let r = c.before.before.before in
     let l = r.before.before.before.before.before in
     let a = l.before.before.before.args in
-    let f = r.before.before.element-fields.ensures.0 in
-    element_read a.kind a.s.now a.list a.at (inside l) _ (rw (lent a.s.now a.list.at a.list.len, f) at r.read-fields.ensures.0) _ _ c.if2.false (rw (lent a.s.now a.list.at a.list.len, f) at r.read-fields.ensures.1)))
+    let f = r.before.before.element_fields.ensures.0 in
+    element_read a.kind a.s.now a.list a.at (inside l) _ (rw (lent a.s.now a.list.at a.list.len, f) at r.read_fields-last.ensures.0) _ _ c.if-last-ne0.false (rw (lent a.s.now a.list.at a.list.len, f) at r.read_fields-last.ensures.1)))

@@ -30,24 +30,24 @@ read_field_spec =
     (λ c κs. search rules)
     (λ c. search rules)
     (λ c κs. search rules)
-    (λ c. of_kind _ _ _ _ _ _ _ _ _ c.before.enum_told.given.1 (c.after.ensures, refl))
+    (λ c. of_kind _ _ _ _ _ _ _ _ _ c.before.in-Nothing.is (c.after.ensures, refl))
     (λ c. search rules)
     (λ c.
-    let e = c.before.before.read-unsigned.ensures in
-    let a = c.before.before.before.before.before.before.before.before.before.before.args in
-    of_kind _ _ _ _ _ _ _ _ _ c.before.before.before.before.before.before.kind.given.1 (rw c.before.before.before.before.largest.ensures at e.0, rw c.before.before.before.before.largest.ensures at (e.1 a.base)))
+    let e = c.before.before.read_unsigned.ensures in
+    let a = c.before.before.before.before.before.before.before.before.args in
+    of_kind _ _ _ _ _ _ _ _ _ c.before.before.before.before.before.in-Number.is (rw c.before.before.before.before.largest.ensures at e.0, rw c.before.before.before.before.largest.ensures at (e.1 a.base)))
     (λ c. search rules)
-    (λ c. let e = c.before.before.read-unsigned2.ensures in of_kind _ _ _ _ _ _ _ _ _ c.before.before.before.before.enum-told2.given.1 (e.0, e.1 _))
+    (λ c. let e = c.before.before.read_unsigned-in-Active.ensures in of_kind _ _ _ _ _ _ _ _ _ c.before.before.before.before.in-Active.is (e.0, e.1 _))
     (λ c. search rules)
     (λ c.
-    let e = c.before.before.read-unsigned3.ensures in
-    let k = c.before.before.before.before.before.before.before in
-    of_kind _ _ _ _ _ _ _ _ _ c.before.before.before.before.enum-told3.given.1 (signed_read _ _ _ _ _ _ _ (λ i. omega (arith, k.shared-slice-known.given i)) e.0 (e.1 _)))
+    let e = c.before.before.read_unsigned-in-Signed.ensures in
+    let k = c.before.before.before.before.before.before in
+    of_kind _ _ _ _ _ _ _ _ _ c.before.before.before.before.in-Signed.is (signed_read _ _ _ _ _ _ _ (λ i. omega (arith, k.shared_slice_known-1.given i)) e.0 (e.1 _)))
     (λ c. search rules)
-    (λ c. of_kind _ _ _ _ _ _ _ _ _ c.before.before.before.before.before.kind2.given.1 c.before.before.read-string.ensures)
+    (λ c. of_kind _ _ _ _ _ _ _ _ _ c.before.before.before.before.in-String.is c.before.before.read_string.ensures)
     (λ c. search rules)
-    (λ c. let e = c.before.before.read-specification.ensures in of_kind _ _ _ _ _ _ _ _ _ c.before.before.before.before.before.kind3.given.1 (e.0, e.1 _))
+    (λ c. let e = c.before.before.read_specification.ensures in of_kind _ _ _ _ _ _ _ _ _ c.before.before.before.before.in-Specification.is (e.0, e.1 _))
     (λ c. search rules)
-    (λ c. of_kind _ _ _ _ _ _ _ _ _ c.before.before.before.before.before.kind4.given.1 c.before.before.read-list.ensures)
+    (λ c. of_kind _ _ _ _ _ _ _ _ _ c.before.before.before.before.in-List.is c.before.before.read_list.ensures)
     (λ c. search rules)
-    (λ c. of_kind _ _ _ _ _ _ _ _ _ c.before.before.before.before.enum-told4.given.1 c.before.before.read-chunk.ensures))
+    (λ c. of_kind _ _ _ _ _ _ _ _ _ c.before.before.before.before.in-Chunk.is c.before.before.read_chunk.ensures))

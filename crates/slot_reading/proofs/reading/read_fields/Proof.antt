@@ -12,19 +12,19 @@ use borrow.Author.Rules.{rules}
 use Rattle.slot_reading.proofs.reading.read_fields.Statement.{statement}
 use Rattle.slot_reading.proofs.reading.read_fields.Tie as tie
 
-abbrev invariant_loop : tie.invariant_loop
+abbrev invariant_loop : tie.invariant-loop-i
 invariant_loop s start base slots₀ first fields at₀ slot₀ i₀ slots at slot i =
     (i ≤ 6) × (slot ≤ first + i * 14) × (length fields ≡ 6) × (length slots ≡ length slots₀) × (stop (read_row (row_by kind_of (drop i fields)) s at) ≡ stop (read_row (row_from fields) s start))
     × Continues base s (row_by kind_of (drop i fields)) at slots slot (row_from fields) start slots₀ first
 
-abbrev decreases_loop : tie.decreases_loop
+abbrev decreases_loop : tie.decreases-loop-i
 decreases_loop s start base slots₀ first fields at₀ slot₀ i₀ slots at slot i = 6 - i
 
-more : (c : tie.In-loop invariant_loop decreases_loop) → c.before.loop.i < length c.before.before.before.before.args.t4
-more c = let l = c.before.loop.invariant.2 in omega arith
+more : (c : tie.In-loop-i invariant_loop decreases_loop) → c.before.loop-i.i < length c.before.before.before.before.args.t4
+more c = let l = c.before.loop-i.invariant.2 in omega arith
 
-last : (c : tie.After-loop invariant_loop decreases_loop) → c.before.loop.i ≡ length c.before.before.before.before.args.t4
-last c = let l = c.before.loop.invariant.2 in omega arith
+last : (c : tie.After-loop-i invariant_loop decreases_loop) → c.before.loop-i.i ≡ length c.before.before.before.before.args.t4
+last c = let l = c.before.loop-i.invariant.2 in omega arith
 
 pub read_fields_spec : {M : Type 1} → statement M
 read_fields_spec =
@@ -41,11 +41,11 @@ read_fields_spec =
     let r = c.before.before.before.before in
     let k = r.before.before in
     let l = k.before.before in
-    let f = rw k.field-kind.ensures at r.read-field.ensures.0 in
-    let e = row_refused kind_of _ _ _ _ _ (more k.before) f c.if1.true ∙ l.loop.invariant.4 in
-    (e, refused_filled _ _ _ _ _ _ _ _ e c.if1.true))
+    let f = rw k.field_kind-kind.ensures at r.read_field-end.ensures.0 in
+    let e = row_refused kind_of _ _ _ _ _ (more k.before) f c.if-end-ne0.true ∙ l.loop-i.invariant.4 in
+    (e, refused_filled _ _ _ _ _ _ _ _ e c.if-end-ne0.true))
     (λ c κs. search rules)
-    (λ c. let l = c.before.before.before.before.before.before.before.before.before in omega (arith, l.loop.invariant.0, l.loop.invariant.1, l.before.before.before.requires.1, c.slots-of.ensures.1))
+    (λ c. let l = c.before.before.before.before.before.before.before.before.before in omega (arith, l.loop-i.invariant.0, l.loop-i.invariant.1, l.before.before.before.requires.1, c.slots_of-slot.ensures.1))
     (λ c. search rules)
     (λ c. search rules)
     (λ c.
@@ -53,22 +53,22 @@ read_fields_spec =
     let k = r.before.before in
     let l = k.before.before in
     let a = l.before.before.before.args in
-    let v = l.loop.invariant in
-    let f = rw k.field-kind.ensures at r.read-field.ensures.0 in
-    let p = rw k.field-kind.ensures at r.read-field.ensures.1 in
-    let n = rw k.field-kind.ensures at c.slots-of.ensures.0 in
-    let z = c.before.if1.false in
+    let v = l.loop-i.invariant in
+    let f = rw k.field_kind-kind.ensures at r.read_field-end.ensures.0 in
+    let p = rw k.field_kind-kind.ensures at r.read_field-end.ensures.1 in
+    let n = rw k.field_kind-kind.ensures at c.slots_of-slot.ensures.0 in
+    let z = c.before.if-end-ne0.false in
     let m = more k.before in (
       search rules,
-      omega (arith, v.1, c.slots-of.ensures.1),
+      omega (arith, v.1, c.slots_of-slot.ensures.1),
       v.2,
-      ap length p ∙ kind_length a.base (kind_of (get_or a.t4 l.loop.i 0)) a.s.now l.loop.at l.loop.slots l.loop.slot ∙ v.3,
+      ap length p ∙ kind_length a.base (kind_of (get_or a.t4 l.loop-i.i 0)) a.s.now l.loop-i.at l.loop-i.slots l.loop-i.slot ∙ v.3,
       row_turns kind_of _ _ _ _ _ m f z ∙ v.4,
-      λ new g. v.5 new (fills_next a.base a.t4 a.s.now l.loop.i l.loop.at l.loop.slots l.loop.slot _ _ _ z m f p n new g),
+      λ new g. v.5 new (fills_next a.base a.t4 a.s.now l.loop-i.i l.loop-i.at l.loop-i.slots l.loop-i.slot _ _ _ z m f p n new g),
     ))
     (λ c κs. search rules)
-    (λ c. c.before.before.loop.invariant.3)
+    (λ c. c.before.before.loop-i.invariant.3)
     (λ c.
     let l = c.before.before in
     let a = l.before.before.before.args in
-    (c.after.ensures ∙ row_ended kind_of _ _ _ _ (last c.before) ∙ l.loop.invariant.4, l.loop.invariant.5 _ (filled_all a.base a.t4 a.s.now l.loop.i l.loop.at l.loop.slots l.loop.slot (last c.before)))))
+    (c.after.ensures ∙ row_ended kind_of _ _ _ _ (last c.before) ∙ l.loop-i.invariant.4, l.loop-i.invariant.5 _ (filled_all a.base a.t4 a.s.now l.loop-i.i l.loop-i.at l.loop-i.slots l.loop-i.slot (last c.before)))))

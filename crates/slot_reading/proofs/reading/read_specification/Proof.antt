@@ -12,26 +12,26 @@ use borrow.Author.Rules.{rules}
 use Rattle.slot_reading.proofs.reading.read_specification.Statement.{statement}
 use Rattle.slot_reading.proofs.reading.read_specification.Tie as tie
 
-ended : (c : tie.After-specification-end) → let a = c.before.before.before.args in c.specification-end.result ≡ stop (read_field (specification a.admits-none) a.s.now a.at)
+ended : (c : tie.After-specification_end-end) → let a = c.before.before.before.args in c.specification_end-end.result ≡ stop (read_field (specification a.admits-none) a.s.now a.at)
 unfolding read_field
-ended c = c.specification-end.ensures
+ended c = c.specification_end-end.ensures
 
-bytes : (c : tie.After-specification-end) → Bytes c.before.before.before.args.s.now
+bytes : (c : tie.After-specification_end-end) → Bytes c.before.before.before.args.s.now
 unfolding Bytes
-bytes c i = omega (arith, c.before.before.shared-slice-known.given i)
+bytes c i = omega (arith, c.before.before.shared_slice_known-1.given i)
 
-there : (c : tie.Else1) → let a = c.before.before.before.before.before.args in a.at + 2 ≤ length a.s.now
+there : (c : tie.Else-end-ne0) → let a = c.before.before.before.before.before.args in a.at + 2 ≤ length a.s.now
 there c =
     let e = c.before.before in
     let a = e.before.before.before.args in
-    (found (specification a.admits-none) a.s.now a.at _ (ended e) (Typed a.s.now a.at 0) c.if1.false (typed a.s.now a.at 0 a.admits-none (bytes e))).2.there
+    (found (specification a.admits-none) a.s.now a.at _ (ended e) (Typed a.s.now a.at 0) c.if-end-ne0.false (typed a.s.now a.at 0 a.admits-none (bytes e))).2.there
 
 pub read_specification_spec : {M : Type 1} → statement M
 read_specification_spec =
     tie.close
     (tie.spec
     (λ c κs. search rules)
-    (λ c. let e = c.before.before in (ended e, λ base. slots_stay _ _ _ _ (ended e) base _ _ c.if1.true))
+    (λ c. let e = c.before.before in (ended e, λ base. slots_stay _ _ _ _ (ended e) base _ _ c.if-end-ne0.true))
     (λ c κs. search rules)
     (λ c. omega (arith, there c.before))
     (λ c. search rules)
@@ -42,7 +42,7 @@ read_specification_spec =
     let n = t.before.before in
     let e = n.before.before.before in
     let a = e.before.before.before.args in
-    (ended e, λ base. slots_put _ _ _ _ (ended e) base _ _ _ _ n.before.if1.false c.before.before.put-slots.ensures (offset_alone _ _ base a.admits-none (bytes e) _ _ n.number-or-zero.ensures t.if2.true)))
+    (ended e, λ base. slots_put _ _ _ _ (ended e) base _ _ _ _ n.before.if-end-ne0.false c.before.before.put_slots.ensures (offset_alone _ _ base a.admits-none (bytes e) _ _ n.number_or_zero-kind.ensures t.if-end-first.true)))
     (λ c κs. search rules)
     (λ c. search rules)
     (λ c κs. search rules)
@@ -52,4 +52,4 @@ read_specification_spec =
     let n = v.before.before.before in
     let e = n.before.before.before in
     let a = e.before.before.before.args in
-    (ended e, λ base. slots_put _ _ _ _ (ended e) base _ _ _ _ n.before.if1.false c.before.before.put-slots2.ensures (offset_more _ _ base a.admits-none (bytes e) _ _ n.number-or-zero.ensures _ v.before.if2.false v.number-or-zero2.ensures))))
+    (ended e, λ base. slots_put _ _ _ _ (ended e) base _ _ _ _ n.before.if-end-ne0.false c.before.before.put_slots-2.ensures (offset_more _ _ base a.admits-none (bytes e) _ _ n.number_or_zero-kind.ensures _ v.before.if-end-first.false v.number_or_zero.ensures))))

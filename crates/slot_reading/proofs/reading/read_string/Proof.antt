@@ -14,35 +14,35 @@ use borrow.Author.Rules.{rules}
 use Rattle.slot_reading.proofs.reading.read_string.Statement.{statement}
 use Rattle.slot_reading.proofs.reading.read_string.Tie as tie
 
-ended : (c : tie.After-string-end) → let a = c.before.before.before.args in c.string_end.result ≡ stop (read_field (string a.form a.nullable) a.s.now a.at)
+ended : (c : tie.After-string_end-end) → let a = c.before.before.before.args in c.string_end-end.result ≡ stop (read_field (string a.form a.nullable) a.s.now a.at)
 unfolding read_field
-ended c = c.string_end.ensures
+ended c = c.string_end-end.ensures
 
-bytes : (c : tie.After-string-end) → Bytes c.before.before.before.args.s.now
+bytes : (c : tie.After-string_end-end) → Bytes c.before.before.before.args.s.now
 unfolding Bytes
-bytes c i = omega (arith, c.before.before.shared-slice-known.given i)
+bytes c i = omega (arith, c.before.before.shared_slice_known-1.given i)
 
-not_null : (c : tie.Else2) → let a = c.before.before.before.before.before.before.before.args in number_or_zero (length_width a.form) a.s.now a.at ≡ 256 ^ length_width a.form - 1 → ⊥
-not_null c = eqb-false _ _ (sym c.before.is-null.ensures ∙ c.if2.false)
+not_null : (c : tie.Else-is_null) → let a = c.before.before.before.before.before.before.before.args in number_or_zero (length_width a.form) a.s.now a.at ≡ 256 ^ length_width a.form - 1 → ⊥
+not_null c = eqb-false _ _ (sym c.before.is_null.ensures ∙ c.if-is_null.false)
 
 -- The string ends after its length, within s.
-after : (c : tie.Else2) → let e = c.before.before.before.before in let a = e.before.before.before.args in (a.at + length_width a.form ≤ e.string_end.result.at) × (e.string_end.result.at ≤ length a.s.now)
+after : (c : tie.Else-is_null) → let e = c.before.before.before.before in let a = e.before.before.before.args in (a.at + length_width a.form ≤ e.string_end-end.result.at) × (e.string_end-end.result.at ≤ length a.s.now)
 after c =
     let e = c.before.before.before.before in
     let a = e.before.before.before.args in
-    let b = (found (string a.form a.nullable) a.s.now a.at _ (ended e) (Body a.s.now a.at a.base a.form a.nullable) c.before.before.if1.false (body_found a.s.now a.at a.base a.form a.nullable (bytes e) (not_null c))).2 in
+    let b = (found (string a.form a.nullable) a.s.now a.at _ (ended e) (Body a.s.now a.at a.base a.form a.nullable) c.before.before.if-end-ne0.false (body_found a.s.now a.at a.base a.form a.nullable (bytes e) (not_null c))).2 in
     (b.after, b.within)
 
 -- Where its bytes begin.
 first : (c : tie.After-bytes) → c.bytes.result ≡ length_width c.before.before.before.before.before.before.before.before.before.args.form
-first c = c.bytes.ensures ∙ c.before.length-width.ensures
+first c = c.bytes.ensures ∙ c.before.length_width.ensures
 
 pub read_string_spec : {M : Type 1} → statement M
 read_string_spec =
     tie.close
     (tie.spec
     (λ c κs. search rules)
-    (λ c. let e = c.before.before in (ended e, slots_stay _ _ _ _ (ended e) _ _ _ c.if1.true))
+    (λ c. let e = c.before.before in (ended e, slots_stay _ _ _ _ (ended e) _ _ _ c.if-end-ne0.true))
     (λ c κs. search rules)
     (λ c. search rules)
     (λ c κs. search rules)
@@ -51,7 +51,7 @@ read_string_spec =
     let n = c.before.before.before.before.before in
     let e = n.before.before.before.before in
     let a = e.before.before.before.args in
-    (ended e, slots_put _ _ _ _ (ended e) _ _ _ _ _ n.before.before.if1.false c.before.before.put-slots.ensures (null_slots _ _ _ a.form a.nullable _ (bytes e) (eqb-true _ _ (sym n.before.is-null.ensures ∙ n.if2.true)))))
+    (ended e, slots_put _ _ _ _ (ended e) _ _ _ _ _ n.before.before.if-end-ne0.false c.before.before.put_slots.ensures (null_slots _ _ _ a.form a.nullable _ (bytes e) (eqb-true _ _ (sym n.before.is_null.ensures ∙ n.if-is_null.true)))))
     (λ c κs. search rules)
     (λ c κs. search rules)
     (λ c. let l = c.before.before in let w = first c in let b = after l in omega (arith, w, b.0, b.1))
@@ -65,4 +65,4 @@ read_string_spec =
     let l = n.before.before in
     let e = l.before.before.before.before in
     let a = e.before.before.before.args in
-    (ended e, slots_put _ _ _ _ (ended e) _ _ _ ((a.base + (a.at + length_width a.form)) ∷ (e.string_end.result.at - (a.at + length_width a.form)) ∷ []) _ l.before.before.if1.false (rw (first n) at c.before.before.put-slots2.ensures) (body_slots _ _ _ a.form a.nullable _ e.before.before.before.requires (bytes e) (not_null l)))))
+    (ended e, slots_put _ _ _ _ (ended e) _ _ _ ((a.base + (a.at + length_width a.form)) ∷ (e.string_end-end.result.at - (a.at + length_width a.form)) ∷ []) _ l.before.before.if-end-ne0.false (rw (first n) at c.before.before.put_slots-2.ensures) (body_slots _ _ _ a.form a.nullable _ e.before.before.before.requires (bytes e) (not_null l)))))

@@ -16,7 +16,7 @@ read_unsigned_spec =
     (λ c.
     let e = c.before.before in
     let a = e.before.before.before.args in
-    (e.unsigned_end.ensures, λ base. slots_stay (unsigned (width_of a.width) a.most) _ _ _ e.unsigned_end.ensures base _ _ c.if1.true))
+    (e.unsigned_end-end.ensures, λ base. slots_stay (unsigned (width_of a.width) a.most) _ _ _ e.unsigned_end-end.ensures base _ _ c.if-end-ne0.true))
     (λ c κs. search rules)
     (λ c. search rules)
     (λ c κs. search rules)
@@ -25,4 +25,4 @@ read_unsigned_spec =
     let n = c.before.before.before.before.before in
     let e = n.before.before.before in
     let a = e.before.before.before.args in
-    (e.unsigned_end.ensures, λ base. slots_put (unsigned (width_of a.width) a.most) _ _ _ e.unsigned_end.ensures base _ _ _ _ n.before.if1.false c.before.before.put-slots.ensures (unsigned_slots _ _ base _ _ _ _ n.number-or-zero.ensures))))
+    (e.unsigned_end-end.ensures, λ base. slots_put (unsigned (width_of a.width) a.most) _ _ _ e.unsigned_end-end.ensures base _ _ _ _ n.before.if-end-ne0.false c.before.before.put_slots.ensures (unsigned_slots _ _ base _ _ _ _ n.number_or_zero.ensures))))

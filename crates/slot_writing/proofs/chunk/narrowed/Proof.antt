@@ -11,8 +11,8 @@ unfolding narrow
 narrowed_spec =
     tie.close
     (tie.spec
-    (λ c. rw (lt-ltb c.before.args.x 0x8000_0000_0000_0000 c.if1.true))
+    (λ c. rw (lt-ltb c.before.args.x 0x8000_0000_0000_0000 c.if-x-lt9223372036854775808.true))
     (λ c. search rules)
-    (λ c. rw (le-ltb c.before.before.args.x 0x8000_0000_0000_0000 c.before.if1.false) (nothing_left c.before.before.args.x c.before.before.args.ones c.if2.true))
+    (λ c. rw (le-ltb c.before.before.args.x 0x8000_0000_0000_0000 c.before.if-x-lt9223372036854775808.false) (nothing_left c.before.before.args.x c.before.before.args.ones c.if-ones-below.true))
     (λ c. search rules)
-    (λ c. rw (le-ltb c.before.before.args.x 0x8000_0000_0000_0000 c.before.if1.false)))
+    (λ c. rw (le-ltb c.before.before.args.x 0x8000_0000_0000_0000 c.before.if-x-lt9223372036854775808.false)))

@@ -16,5 +16,5 @@ put_chunk_spec =
     (λ c κs. search rules)
     (λ c κs. search rules)
     (λ c κs. search rules)
-    (λ c. c.before.out2.given ∙ c.before.before.before.before.before.out.given)
-    (λ c. copied_next c.before.before.before.before.before.before.before.before.before.before.before.before.before.args.src.now (place (get_or (drop c.before.before.before.before.before.before.before.before.before.before.before.before.before.args.at c.before.before.before.before.before.before.before.before.before.before.before.before.before.args.slots.now) 12 0) (get_or (drop c.before.before.before.before.before.before.before.before.before.before.before.before.before.args.at c.before.before.before.before.before.before.before.before.before.before.before.before.before.args.slots.now) 13 0)) _ _ _ _ _ c.before.before.before.before.before.before.put-header.ensures (copied_from _ _ _ _ _ _ _ _ _ c.before.before.before.before.before.before.before.before.before.slot.ensures c.before.before.before.before.before.before.before.before.slot2.ensures c.before.before.put-bytes.ensures)))
+    (λ c. c.before.out-2-1.given ∙ c.before.before.before.before.before.out-1.given)
+    (λ c. copied_next c.before.before.before.before.before.before.before.before.before.before.before.before.before.args.src.now (place (get_or (drop c.before.before.before.before.before.before.before.before.before.before.before.before.before.args.at c.before.before.before.before.before.before.before.before.before.before.before.before.before.args.slots.now) 12 0) (get_or (drop c.before.before.before.before.before.before.before.before.before.before.before.before.before.args.at c.before.before.before.before.before.before.before.before.before.before.before.before.before.args.slots.now) 13 0)) _ _ _ _ _ c.before.before.before.before.before.before.put_header-next.ensures (copied_from _ _ _ _ _ _ _ _ _ c.before.before.before.before.before.before.before.before.before.slot-from.ensures c.before.before.before.before.before.before.before.before.slot-len.ensures c.before.before.put_bytes.ensures)))

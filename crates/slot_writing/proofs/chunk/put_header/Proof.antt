@@ -46,7 +46,7 @@ put_header_spec =
     let o3 = o4.before.before.before.before.before in
     let o2 = o3.before.before.before.before.before in
     let o1 = o2.before.before.before.before.before in
-    o12.out12.given ∙ o11.out11.given ∙ o10.out10.given ∙ o9.out9.given ∙ o8.out8.given ∙ o7.out7.given ∙ o6.out6.given ∙ o5.out5.given ∙ o4.out4.given ∙ o3.out3.given ∙ o2.out2.given ∙ o1.out.given)
+    o12.out-12-1.given ∙ o11.out-11-1.given ∙ o10.out-10-1.given ∙ o9.out-9-1.given ∙ o8.out-8-1.given ∙ o7.out-7-1.given ∙ o6.out-6-1.given ∙ o5.out-5-1.given ∙ o4.out-4-1.given ∙ o3.out-3-1.given ∙ o2.out-2-1.given ∙ o1.out-1.given)
     (λ c.
     let p12 = c.before.before in
     let p11 = p12.before.before.before.before.before in
@@ -60,4 +60,4 @@ put_header_spec =
     let p3 = p4.before.before.before.before.before in
     let p2 = p3.before.before.before.before.before in
     let p1 = p2.before.before.before.before.before in
-    unsigned_next 3 p12.before.slot12.ensures (unsigned_next 1 p11.before.slot11.ensures (unsigned_next 4 p10.before.slot10.ensures (unsigned_next 4 p9.before.slot9.ensures (signed_next 4 p8.before.slot8.ensures (unsigned_next 8 p7.before.slot7.ensures (unsigned_next 8 p6.before.slot6.ensures (signed_next 8 p5.before.slot5.ensures (unsigned_next 4 p4.before.slot4.ensures (unsigned_next 2 p3.before.slot3.ensures (signed_next 1 p2.before.slot2.ensures (signed_next 1 p1.before.slot.ensures refl p1.put-signed.ensures) p2.put-signed2.ensures) p3.put-number.ensures) p4.put-number2.ensures) p5.put-signed3.ensures) p6.put-number3.ensures) p7.put-number4.ensures) p8.put-signed4.ensures) p9.put-number5.ensures) p10.put-number6.ensures) p11.put-number7.ensures) p12.put-number8.ensures))
+    unsigned_next 3 p12.before.slot-12.ensures (unsigned_next 1 p11.before.slot-11.ensures (unsigned_next 4 p10.before.slot-10.ensures (unsigned_next 4 p9.before.slot-9.ensures (signed_next 4 p8.before.slot-8.ensures (unsigned_next 8 p7.before.slot-7.ensures (unsigned_next 8 p6.before.slot-6.ensures (signed_next 8 p5.before.slot-5.ensures (unsigned_next 4 p4.before.slot-4.ensures (unsigned_next 2 p3.before.slot-3.ensures (signed_next 1 p2.before.slot-2.ensures (signed_next 1 p1.before.slot.ensures refl p1.put_signed-next.ensures) p2.put_signed-next-2.ensures) p3.put_number-next.ensures) p4.put_number-next-2.ensures) p5.put_signed-next-3.ensures) p6.put_number-next-3.ensures) p7.put_number-next-4.ensures) p8.put_signed-next-4.ensures) p9.put_number-next-5.ensures) p10.put_number-next-6.ensures) p11.put_number-next-7.ensures) p12.put_number.ensures))

@@ -16,5 +16,5 @@ put_signed_spec =
     (λ c κs. search rules)
     (λ c κs. search rules)
     (λ c κs. search rules)
-    (λ c. c.before.out.given)
-    (λ c. let a = c.before.before.before.before.before.before.before.args in c.before.before.put-number.ensures ∙ ap (λ (v : ℕ). put a.out.now a.at (digits (width_of a.width) v)) (c.before.before.before.narrowed.ensures ∙ ap (λ (n : ℕ). narrow n a.x) c.before.before.before.before.largest.ensures ∙ narrow_bits (width_of a.width) a.x)))
+    (λ c. c.before.out-1.given)
+    (λ c. let a = c.before.before.before.before.before.before.before.args in c.before.before.put_number.ensures ∙ ap (λ (v : ℕ). put a.out.now a.at (digits (width_of a.width) v)) (c.before.before.before.narrowed.ensures ∙ ap (λ (n : ℕ). narrow n a.x) c.before.before.before.before.largest.ensures ∙ narrow_bits (width_of a.width) a.x)))

@@ -18,4 +18,4 @@ write_elements_spec =
     (λ c.
     let list = c.before.before.before.before in
     let a = list.before.before.before.before.before.before.before.args in
-    same_step (list_of a.kind) a.src.now _ (rw (list.before.before.before.slot.ensures, list.before.before.slot2.ensures, list.before.slot3.ensures) at list.list-of.ensures) c.before.before.write-list.ensures))
+    same_step (list_of a.kind) a.src.now _ (rw (list.before.before.before.slot.ensures, list.before.before.slot-2.ensures, list.before.slot-3.ensures) at list.list_of-list.ensures) c.before.before.write_list.ensures))

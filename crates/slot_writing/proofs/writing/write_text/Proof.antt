@@ -19,10 +19,10 @@ write_text_spec =
     (λ c. search rules)
     (λ c.
     let a = c.before.before.before.before.before.before.before.before.before.before.before.args in
-    rw c.before.before.before.before.before.if1.true (same_step (K.string a.form true) a.src.now _ (rw (c.before.before.before.before.before.before.before.slot.ensures, c.before.before.before.before.before.before.slot2.ensures) at c.before.before.before.nullable-of.ensures) c.before.before.write-nullable.ensures))
+    rw c.before.before.before.before.before.if-nullable.true (same_step (K.string a.form true) a.src.now _ (rw (c.before.before.before.before.before.before.before.slot-from.ensures, c.before.before.before.before.before.before.slot-len.ensures) at c.before.before.before.nullable_of.ensures) c.before.before.write_nullable.ensures))
     (λ c κs. search rules)
     (λ c κs. search rules)
     (λ c. search rules)
     (λ c.
     let a = c.before.before.before.before.before.before.before.before.before.before.before.args in
-    rw c.before.before.before.before.before.if1.false (same_step (K.string a.form false) a.src.now _ (ap place_field (rw (c.before.before.before.before.before.before.before.slot.ensures, c.before.before.before.before.before.before.slot2.ensures) at c.before.before.before.place_of.ensures)) c.before.before.write-string.ensures)))
+    rw c.before.before.before.before.before.if-nullable.false (same_step (K.string a.form false) a.src.now _ (ap place_field (rw (c.before.before.before.before.before.before.before.slot-from.ensures, c.before.before.before.before.before.before.slot-len.ensures) at c.before.before.before.place_of.ensures)) c.before.before.write_string.ensures)))

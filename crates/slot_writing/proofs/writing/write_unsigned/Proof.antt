@@ -19,4 +19,4 @@ write_unsigned_spec =
     (λ c. search rules)
     (λ c.
     let a = c.before.before.before.before.before.before.before.args in
-    same_step (unsigned (width_of a.width) (256 ^ width_of a.width - 1)) [] _ (ap number c.before.before.before.slot.ensures) c.before.before.write-number.ensures))
+    same_step (unsigned (width_of a.width) (256 ^ width_of a.width - 1)) [] _ (ap number c.before.before.before.slot.ensures) c.before.before.write_number.ensures))

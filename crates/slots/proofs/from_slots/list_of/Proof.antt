@@ -8,4 +8,4 @@ list_of_spec =
     tie.close
     (tie.spec
     (λ c κs. search rules)
-    (λ c. rw c.place_of.ensures))
+    (λ c. rw c.place_of-place.ensures))

@@ -8,6 +8,6 @@ pub nullable_of_spec : {M : Type 1} → statement M
 nullable_of_spec =
     tie.close
     (tie.spec
-    (λ c. rw (eq-eqb c.before.args.len 0xffff_ffff_ffff_ffff c.if1.true))
+    (λ c. rw (eq-eqb c.before.args.len 0xffff_ffff_ffff_ffff c.if-len-eq-NULL_LENGTH.true))
     (λ c κs. search rules)
-    (λ c. rw (ne_eqb c.before.before.args.len 0xffff_ffff_ffff_ffff c.before.if1.false, c.place_of.ensures)))
+    (λ c. rw (ne_eqb c.before.before.args.len 0xffff_ffff_ffff_ffff c.before.if-len-eq-NULL_LENGTH.false, c.place_of-place.ensures)))

@@ -24,19 +24,19 @@ flat_chunk_spec =
     (λ c κs. search rules)
     (λ c κs. search rules)
     (λ c κs. search rules)
-    (λ c. Fits-16_64 c.struct_known.given.1.1.0)
-    (λ c. Fits-32_64 c.struct-known2.given.1.1.1.0)
-    (λ c. Fits-32_64 c.struct-known3.given.1.1.1.1.1.1.1.1.0)
-    (λ c. Fits-32_64 c.struct-known4.given.1.1.1.1.1.1.1.1.1.0)
-    (λ c. Fits-8_64 c.struct-known5.given.1.1.1.1.1.1.1.1.1.1.0)
-    (λ c. Fits-32_64 c.struct-known6.given.1.1.1.1.1.1.1.1.1.1.1.0)
+    (λ c. Fits-16_64 c.struct_known-1.given.1.1.0)
+    (λ c. Fits-32_64 c.struct_known-2-1.given.1.1.1.0)
+    (λ c. Fits-32_64 c.struct_known-3-1.given.1.1.1.1.1.1.1.1.0)
+    (λ c. Fits-32_64 c.struct_known-4-1.given.1.1.1.1.1.1.1.1.1.0)
+    (λ c. Fits-8_64 c.struct_known-5-1.given.1.1.1.1.1.1.1.1.1.1.0)
+    (λ c. Fits-32_64 c.struct_known-6-1.given.1.1.1.1.1.1.1.1.1.1.1.0)
     (λ c.
     let checksum = c.before.before.before.before.before.before in
     let timestamp = checksum.before.before in
     let type = timestamp.before.before in
     let magic = type.before.before in
-    let m = sfits_of magic.before.struct_told.given.0.1 in
-    let t = sfits_of type.before.struct-told2.given.1.0.1 in
-    let s = sfits_of timestamp.before.struct-told3.given.1.1.1.1.0.1 in
-    let k = sfits_of checksum.before.struct-told4.given.1.1.1.1.1.1.1.0.1 in
-    (header_slots magic.before.before.args.header magic.before.before.args.«data» _ _ _ _ (magic.bits8.ensures ∙ ap bits (to_z-of_z {w = w8} m)) (type.bits82.ensures ∙ ap bits (to_z-of_z {w = w8} t)) (timestamp.unsigned64.ensures ∙ ap bits (to_z-of_z {w = w64} s)) (checksum.bits32.ensures ∙ ap bits (to_z-of_z {w = w32} k)), record { magic = bits_64 {w = w8} tt m; type = bits_64 {w = w8} tt t; timestamp = bits_64 {w = w64} tt s; checksum = bits_64 {w = w32} tt k })))
+    let m = sfits_of magic.before.struct_told-1.given.0.1 in
+    let t = sfits_of type.before.struct_told-2-1.given.1.0.1 in
+    let s = sfits_of timestamp.before.struct_told-3-1.given.1.1.1.1.0.1 in
+    let k = sfits_of checksum.before.struct_told-4-1.given.1.1.1.1.1.1.1.0.1 in
+    (header_slots magic.before.before.args.header magic.before.before.args.«data» _ _ _ _ (magic.bits8-magic.ensures ∙ ap bits (to_z-of_z {w = w8} m)) (type.bits8-chunk_type.ensures ∙ ap bits (to_z-of_z {w = w8} t)) (timestamp.unsigned64-timestamp.ensures ∙ ap bits (to_z-of_z {w = w64} s)) (checksum.bits32-checksum.ensures ∙ ap bits (to_z-of_z {w = w32} k)), record { magic = bits_64 {w = w8} tt m; type = bits_64 {w = w8} tt t; timestamp = bits_64 {w = w64} tt s; checksum = bits_64 {w = w32} tt k })))

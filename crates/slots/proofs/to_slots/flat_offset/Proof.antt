@@ -27,11 +27,11 @@ flat_offset_spec =
     (λ c. search rules)
     (λ c. search rules)
     (λ c κs. search rules)
-    (λ c. offset_slots _ _ _ _ refl tt c.enum_told.given.1)
-    (λ c. offset_slots _ _ _ _ refl tt c.enum-told2.given.1)
-    (λ c. offset_slots _ _ _ _ refl tt c.enum-told3.given.1)
-    (λ c. offset_slots _ _ _ _ refl tt c.enum-told4.given.1)
-    (λ c. offset_slots _ _ _ _ refl tt c.before.s.given.1)
+    (λ c. offset_slots _ _ _ _ refl tt c.in-None.is)
+    (λ c. offset_slots _ _ _ _ refl tt c.in-First.is)
+    (λ c. offset_slots _ _ _ _ refl tt c.in-Last.is)
+    (λ c. offset_slots _ _ _ _ refl tt c.in-Next.is)
+    (λ c. offset_slots _ _ _ _ refl tt c.in-Offset.is)
     (λ c.
-    let z = sfits_of c.before.known-told2.given.0.1 in
-    offset_slots _ _ _ _ (ap (λ (v : ℕ). 5 ∷ v ∷ []) (c.unsigned64.ensures ∙ ap bits (to_z-of_z {w = w64} z))) (bits_64 {w = w64} tt z) c.before.before.s2.given.1))
+    let z = sfits_of c.before.in-Timestamp.known_told-in-Timestamp-1-own.given.0.1 in
+    offset_slots _ _ _ _ (ap (λ (v : ℕ). 5 ∷ v ∷ []) (c.unsigned64.ensures ∙ ap bits (to_z-of_z {w = w64} z))) (bits_64 {w = w64} tt z) c.before.in-Timestamp.is))

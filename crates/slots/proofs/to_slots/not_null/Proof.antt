@@ -9,5 +9,5 @@ not_null_spec =
     tie.close
     (tie.spec
     (λ c. search rules)
-    (λ c. simp (eq-eqb _ _ c.if1.true))
-    (λ c. simp (ne_eqb _ _ c.if1.false)))
+    (λ c. simp (eq-eqb _ _ c.if-place-eq-NULL_LENGTH.true))
+    (λ c. simp (ne_eqb _ _ c.if-place-eq-NULL_LENGTH.false)))

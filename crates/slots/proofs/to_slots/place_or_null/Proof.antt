@@ -15,5 +15,5 @@ place_or_null_spec =
     (λ c. search rules)
     (λ c. search rules)
     (λ c κs. search rules)
-    (λ c. sym (ap (λ (x : NullablePlace). flat_octets true (nullable_field x).octets) c.enum_told.given.1))
-    (λ c. c.not_null.ensures ∙ sym (ap (λ (x : NullablePlace). flat_octets true (nullable_field x).octets) c.before.before.o.given.1)))
+    (λ c. sym (ap (λ (x : NullablePlace). flat_octets true (nullable_field x).octets) c.in-Null.is))
+    (λ c. c.not_null.ensures ∙ sym (ap (λ (x : NullablePlace). flat_octets true (nullable_field x).octets) c.before.in-At.is)))

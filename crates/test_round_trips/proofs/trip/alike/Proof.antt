@@ -9,10 +9,10 @@ use Rattle.test_round_trips.proofs.SameBytes.{cut_first, cut_second, all_alike, 
 use Rattle.test_round_trips.proofs.trip.alike.Statement.{statement}
 use Rattle.test_round_trips.proofs.trip.alike.Tie as tie
 
-abbrev invariant_loop : tie.invariant_loop
+abbrev invariant_loop : tie.invariant-loop-i
 invariant_loop s out len i₀ i = (i ≤ len) × (alike len s out ≡ alike (len - i) (drop i s) (drop i out))
 
-abbrev decreases_loop : tie.decreases_loop
+abbrev decreases_loop : tie.decreases-loop-i
 decreases_loop s out len i₀ i = len - i
 
 pub alike_spec : {M : Type 1} → statement M
@@ -21,13 +21,13 @@ alike_spec =
     (tie.spec
     invariant_loop
     decreases_loop
-    (λ c. cut_first _ _ _ c.if1.true)
-    (λ c. cut_second _ _ _ c.if2.true)
+    (λ c. cut_first _ _ _ c.if-s-len.true)
+    (λ c. cut_second _ _ _ c.if-out-len.true)
     (λ c. (search rules, rw sub-zero))
     (λ c. search rules)
     (λ c. search rules)
-    (λ c. let l = c.before.before.before.before.loop in sym (l.invariant.1 ∙ other_byte _ l.i _ _ (search rules) (search rules) (search rules) c.if3.true))
+    (λ c. let l = c.before.before.before.before.loop-i in sym (l.invariant.1 ∙ other_byte _ l.i _ _ (search rules) (search rules) (search rules) c.if-s-i.true))
     (λ c. search rules)
     (λ c. search rules)
-    (λ c. let l = c.before.before.before.before.loop in (search rules, l.invariant.1 ∙ same_byte _ l.i _ _ (search rules) (search rules) (search rules) c.if3.false))
-    (λ c. let l = c.before.loop in sym (l.invariant.1 ∙ all_alike _ l.i _ _ (search rules))))
+    (λ c. let l = c.before.before.before.before.loop-i in (search rules, l.invariant.1 ∙ same_byte _ l.i _ _ (search rules) (search rules) (search rules) c.if-s-i.false))
+    (λ c. let l = c.before.loop-i in sym (l.invariant.1 ∙ all_alike _ l.i _ _ (search rules))))

@@ -5,10 +5,10 @@ use borrow.Author.Rules.{rules}
 use Rattle.test_round_trips.proofs.trip.walk.Statement.{statement}
 use Rattle.test_round_trips.proofs.trip.walk.Tie as tie
 
-abbrev invariant_loop : tie.invariant_loop
+abbrev invariant_loop : tie.invariant-loop-at
 invariant_loop s at₀ frames₀ at frames = (at ≤ length s) × (frames ≤ at)
 
-abbrev decreases_loop : tie.decreases_loop
+abbrev decreases_loop : tie.decreases-loop-at
 decreases_loop s at₀ frames₀ at frames = length s - at
 
 pub walk_spec : {M : Type 1} → statement M

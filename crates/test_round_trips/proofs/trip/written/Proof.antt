@@ -16,5 +16,5 @@ written_spec =
     (λ c. search rules)
     (λ c κs. search rules)
     (λ c. search rules)
-    (λ c. let told = c.before.before.before.before in (c.before.compared.ensures.0 ∙ after_writing _ _ _ _ _ told.n.given.1 told.before.before.before.before.write.ensures, c.before.compared.ensures.1))
-    (λ c. (after_writing _ _ _ _ _ c.before.enum_told.given.1 c.before.before.before.before.before.write.ensures, search rules)))
+    (λ c. let told = c.before.before in (c.before.compared.ensures.0 ∙ after_writing _ _ _ _ _ told.n.given.1 told.before.before.before.before.write.ensures, c.before.compared.ensures.1))
+    (λ c. (after_writing _ _ _ _ _ c.before.in-Refused.is c.before.before.before.before.write.ensures, search rules)))

@@ -9,5 +9,5 @@ digit_spec =
     tie.close
     (tie.spec
     (λ c. search rules)
-    (λ c. (rw (lt-ltb _ _ c.if1.true), search rules))
-    (λ c. (rw (le-ltb _ _ c.if1.false), search rules)))
+    (λ c. (rw (lt-ltb _ _ c.if-b-lt97.true), search rules))
+    (λ c. (rw (le-ltb _ _ c.if-b-lt97.false), search rules)))

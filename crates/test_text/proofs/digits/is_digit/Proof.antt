@@ -7,5 +7,5 @@ pub is_digit_spec : {M : Type 1} → statement M
 is_digit_spec =
     tie.close
     (tie.spec
-    (λ c. rw (lt-ltb _ _ c.if1.true))
-    (λ c. rw (le-ltb _ _ c.if1.false)))
+    (λ c. rw (lt-ltb _ _ c.if-b-lt48.true))
+    (λ c. rw (le-ltb _ _ c.if-b-lt48.false)))

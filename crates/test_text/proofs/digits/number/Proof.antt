@@ -8,10 +8,10 @@ use Rattle.test_text.proofs.Numbers.{number_more, number_stop, number_end}
 use Rattle.test_text.proofs.digits.number.Statement.{statement}
 use Rattle.test_text.proofs.digits.number.Tie as tie
 
-abbrev invariant_loop : tie.invariant_loop
+abbrev invariant_loop : tie.invariant-loop-at
 invariant_loop text value₀ at₀ value at = (value < 10000000000) × (number_in text ≡ number_from value (drop at text) % 10000000000)
 
-abbrev decreases_loop : tie.decreases_loop
+abbrev decreases_loop : tie.decreases-loop-at
 decreases_loop text value₀ at₀ value at = length text - at
 
 pub number_spec : {M : Type 1} → statement M
@@ -32,14 +32,14 @@ number_spec =
     (λ c.
     let l = c.before.before.before.before.before in (
       search rules,
-      l.loop.invariant.1
-          ∙ number_more l.before.before.args.text.now l.loop.at l.loop.value c.digit.result (search rules) (sym c.before.before.is_digit.ensures ∙ c.before.if1.true) c.digit.ensures.0,
+      l.loop-at.invariant.1
+          ∙ number_more l.before.before.args.text.now l.loop-at.at l.loop-at.value c.digit.result (search rules) (sym c.before.before.is_digit.ensures ∙ c.before.if-is_digit.true) c.digit.ensures.0,
     ))
     (λ c.
     let l = c.before.before.before.before in
     sym
-    (l.loop.invariant.1
-    ∙ number_stop l.before.before.args.text.now l.loop.at l.loop.value (search rules) (search rules) (sym c.before.is_digit.ensures ∙ c.if1.false)))
+    (l.loop-at.invariant.1
+    ∙ number_stop l.before.before.args.text.now l.loop-at.at l.loop-at.value (search rules) (search rules) (sym c.before.is_digit.ensures ∙ c.if-is_digit.false)))
     (λ c.
     let l = c.before in
-    sym (l.loop.invariant.1 ∙ number_end l.before.before.args.text.now l.loop.at l.loop.value (search rules) (search rules))))
+    sym (l.loop-at.invariant.1 ∙ number_end l.before.before.args.text.now l.loop-at.at l.loop-at.value (search rules) (search rules))))

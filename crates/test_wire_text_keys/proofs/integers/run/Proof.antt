@@ -4,16 +4,16 @@ use borrow.Author.Rules.{rules}
 use Rattle.test_wire_text_keys.proofs.integers.run.Statement.{statement}
 use Rattle.test_wire_text_keys.proofs.integers.run.Tie as tie
 
-abbrev invariant_loop : tie.invariant_loop
+abbrev invariant_loop : tie.invariant-loop-at
 invariant_loop at₀ at = at ≤ 18
 
-abbrev decreases_loop : tie.decreases_loop
+abbrev decreases_loop : tie.decreases-loop-at
 decreases_loop at₀ at = 18 - at
 
-abbrev invariant_loop2 : tie.invariant_loop2
+abbrev invariant_loop2 : tie.invariant-loop-i
 invariant_loop2 i₀ i = i ≤ 20
 
-abbrev decreases_loop2 : tie.decreases_loop2
+abbrev decreases_loop2 : tie.decreases-loop-i
 decreases_loop2 i₀ i = 20 - i
 
 pub run_spec : {M : Type 1} → statement M

@@ -6,10 +6,10 @@ use borrow.Author.Rules.{rules}
 use Rattle.test_wire_text_keys.proofs.integers.shown.Statement.{statement}
 use Rattle.test_wire_text_keys.proofs.integers.shown.Tie as tie
 
-abbrev invariant_loop : tie.invariant_loop
+abbrev invariant_loop : tie.invariant-loop-i
 invariant_loop out i₀ i-end i = (i ≤ length out) × (i-end ≡ length out)
 
-abbrev decreases_loop : tie.decreases_loop
+abbrev decreases_loop : tie.decreases-loop-i
 decreases_loop out i₀ i-end i = length out - i
 
 pub shown_spec : {M : Type 1} → statement M

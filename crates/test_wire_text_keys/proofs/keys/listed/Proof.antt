@@ -4,10 +4,10 @@ use borrow.Author.Rules.{rules}
 use Rattle.test_wire_text_keys.proofs.keys.listed.Statement.{statement}
 use Rattle.test_wire_text_keys.proofs.keys.listed.Tie as tie
 
-abbrev invariant_loop : tie.invariant_loop
+abbrev invariant_loop : tie.invariant-loop-k
 invariant_loop k₀ k = k ≤ 65536
 
-abbrev decreases_loop : tie.decreases_loop
+abbrev decreases_loop : tie.decreases-loop-k
 decreases_loop k₀ k = 65536 - k
 
 pub listed_spec : {M : Type 1} → statement M

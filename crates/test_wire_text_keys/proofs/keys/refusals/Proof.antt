@@ -8,10 +8,10 @@ use Rattle.test_wire_text_keys.proofs.Sums.{sum_none, sum_more, sum_whole}
 use Rattle.test_wire_text_keys.proofs.keys.refusals.Statement.{statement}
 use Rattle.test_wire_text_keys.proofs.keys.refusals.Tie as tie
 
-abbrev invariant_loop : tie.invariant_loop
+abbrev invariant_loop : tie.invariant-loop-k
 invariant_loop number count₀ k₀ count k = (k ≤ 65536) × ((count ≤ 5 * k) × (count ≡ sum_below (refused_versions number) k))
 
-abbrev decreases_loop : tie.decreases_loop
+abbrev decreases_loop : tie.decreases-loop-k
 decreases_loop number count₀ k₀ count k = 65536 - k
 
 pub refusals_spec : {M : Type 1} → statement M
@@ -26,7 +26,7 @@ refusals_spec =
     (λ c. search rules)
     (λ c. search rules)
     (λ c. search rules)
-    (λ c. let l = c.before.before.loop in
-    (search rules, (search rules, sum_more _ l.k l.count _ l.invariant.1.1 c.refused-versions.ensures.0)))
-    (λ c. let l = c.before.loop in
+    (λ c. let l = c.before.before.loop-k in
+    (search rules, (search rules, sum_more _ l.k l.count _ l.invariant.1.1 c.refused_versions-count.ensures.0)))
+    (λ c. let l = c.before.loop-k in
     sum_whole _ l.k 65536 l.count l.invariant.1.1 (search rules) (search rules)))

@@ -10,5 +10,5 @@ refused_spec =
     tie.close
     (tie.spec
     (λ c κs. search rules)
-    (λ c. (rw (eq-eqb _ _ (sym c.before.answer.ensures ∙ c.if1.true)), search rules))
-    (λ c. (rw (ne_eqb _ _ (λ e. c.if1.false (c.before.answer.ensures ∙ e))), search rules)))
+    (λ c. (rw (eq-eqb _ _ (sym c.before.answer.ensures ∙ c.if-answer-number.true)), search rules))
+    (λ c. (rw (ne_eqb _ _ (λ e. c.if-answer-number.false (c.before.answer.ensures ∙ e))), search rules)))

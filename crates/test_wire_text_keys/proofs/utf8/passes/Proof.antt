@@ -10,7 +10,7 @@ returns : tie.Need-returns
 unfolding passes
 returns c =
     let at = c.before.before.before in
-    c.is-utf8.ensures ∙ (rw (sub-zero, at.before.before.edge.ensures, at.before.edge2.ensures, at.edge3.ensures))
+    c.is_utf8.ensures ∙ (rw (sub-zero, at.before.before.edge.ensures, at.before.edge2.ensures, at.edge3.ensures))
 
 pub passes_spec : {M : Type 1} → statement M
 passes_spec =

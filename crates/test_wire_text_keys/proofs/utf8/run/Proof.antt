@@ -4,10 +4,10 @@ use borrow.Author.Rules.{rules}
 use Rattle.test_wire_text_keys.proofs.utf8.run.Statement.{statement}
 use Rattle.test_wire_text_keys.proofs.utf8.run.Tie as tie
 
-abbrev invariant_loop : tie.invariant_loop
+abbrev invariant_loop : tie.invariant-loop-lead
 invariant_loop lead₀ lead = lead ≤ 256
 
-abbrev decreases_loop : tie.decreases_loop
+abbrev decreases_loop : tie.decreases-loop-lead
 decreases_loop lead₀ lead = 256 - lead
 
 pub run_spec : {M : Type 1} → statement M

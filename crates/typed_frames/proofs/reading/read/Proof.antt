@@ -20,11 +20,11 @@ read_spec =
     (λ c. search rules)
     (λ c.
     let told = c.before.before in
-    let read = told.before.before in
+    let read = told.before in
     let known = read.before.before in
-    let bytes : Bytes known.before.args.bytes.now = λ i. omega (arith, known.shared-slice-known.given i) in
-    let frame = sym told.enum_told.given.1 ∙ read.read.ensures.0 in
+    let bytes : Bytes known.before.args.bytes.now = λ i. omega (arith, known.shared_slice_known-1.given i) in
+    let frame = sym told.in-Frame.is ∙ read.read.ensures.0 in
     let slots = read.read.ensures.1.0 in
-    read_typed_lem _ _ _ _ bytes frame slots _ c.frame-of.ensures)
-    (λ c. short_told _ _ (sym c.before.needed.given.1 ∙ c.before.before.before.read.ensures.0))
-    (λ c. refusal_told _ _ _ (sym c.before.number.given.1 ∙ c.before.before.before.read.ensures.0)))
+    read_typed_lem _ _ _ _ bytes frame slots _ c.frame_of.ensures)
+    (λ c. short_told _ _ (sym c.in-Short.is ∙ c.before.read.ensures.0))
+    (λ c. refusal_told _ _ _ (sym c.in-Refused.is ∙ c.before.read.ensures.0)))

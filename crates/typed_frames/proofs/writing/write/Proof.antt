@@ -19,5 +19,5 @@ write_spec =
     let flat = c.before.before.before.before.before in
     let start = flat.before.before.before in
     c.before.before.write.ensures
-    ∙ ap (λ (s : List ℕ). write_flat s start.args.src.now start.args.limit start.args.out.now) flat.frame-slots.ensures.0
-    ∙ flat_writes start.args.frame flat.frame-slots.ensures.1 _ _ _))
+    ∙ ap (λ (s : List ℕ). write_flat s start.args.src.now start.args.limit start.args.out.now) flat.frame_slots-slots.ensures.0
+    ∙ flat_writes start.args.frame flat.frame_slots-slots.ensures.1 _ _ _))

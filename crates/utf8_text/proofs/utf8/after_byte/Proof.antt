@@ -7,33 +7,33 @@ use Rattle.utf8_text.proofs.Following.{above, below, out_of_range, in_range}
 use Rattle.utf8_text.proofs.utf8.after_byte.Statement.{statement}
 use Rattle.utf8_text.proofs.utf8.after_byte.Tie as tie
 
-dead : tie.Need-returns
+dead : tie.Need-returns-then-left
 unfolding expects
-dead c = simp (eq-eqb _ _ c.if1.true)
+dead c = simp (eq-eqb _ _ c.if-left.true)
 
-between : tie.Need-returns-2
+between : tie.Need-returns-then-left-eq0
 unfolding expects
-between c = rw c.before.if2.true c.after_first.ensures
+between c = rw c.before.if-left-eq0.true c.after_first.ensures
 
-too_low : tie.Need-returns-3
+too_low : tie.Need-returns-then-b-p
 unfolding expects
 too_low c =
     let l = c.before.before.before.before in
-    rw c.after-tails.ensures
-    (out_of_range _ _ l.if1.false c.before.before.before.if2.false (below _ _ _ c.before.if3.true))
+    rw c.after_tails.ensures
+    (out_of_range _ _ l.if-left.false c.before.before.before.if-left-eq0.false (below _ _ _ c.before.if-b-p.true))
 
-too_high : tie.Need-returns-4
+too_high : tie.Need-returns-then-p-b
 unfolding expects
 too_high c =
     let l = c.before.before.before.before.before.before in
-    rw c.after-tails2.ensures
-    (out_of_range _ _ l.if1.false c.before.before.before.before.before.if2.false (above _ _ _ c.before.if4.true))
+    rw c.after_tails-then-p-b.ensures
+    (out_of_range _ _ l.if-left.false c.before.before.before.before.before.if-left-eq0.false (above _ _ _ c.before.if-p-b.true))
 
-right : tie.Need-returns-5
+right : tie.Need-returns
 right c =
     let l = c.before.before.before.before.before.before in
-    rw c.after-tails3.ensures
-    (in_range _ _ l.if1.false c.before.before.before.before.before.if2.false (search rules) (omega arith) (omega arith))
+    rw c.after_tails-2.ensures
+    (in_range _ _ l.if-left.false c.before.before.before.before.before.if-left-eq0.false (search rules) (omega arith) (omega arith))
 
 pub after_byte_spec : {M : Type 1} → statement M
 after_byte_spec =

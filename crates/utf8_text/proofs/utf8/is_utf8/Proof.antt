@@ -12,25 +12,25 @@ use Rattle.utf8_text.proofs.Ascii.{ascii_utf8}
 use Rattle.utf8_text.proofs.utf8.is_utf8.Statement.{statement}
 use Rattle.utf8_text.proofs.utf8.is_utf8.Tie as tie
 
-abbrev invariant_loop : tie.invariant_loop
+abbrev invariant_loop : tie.invariant-loop-i
 invariant_loop s p₀ i₀ p i = (i ≤ length s) × (following (some []) s ≡ following (expects p) (drop i s))
 
-abbrev decreases_loop : tie.decreases_loop
+abbrev decreases_loop : tie.decreases-loop-i
 decreases_loop s p₀ i₀ p i = length s - i
 
-returns : tie.Need-returns invariant_loop decreases_loop
-returns c = sym (ascii_utf8 _ (sym c.before.is_ascii.ensures ∙ c.if1.true))
+returns : tie.Need-returns-then-is_ascii invariant_loop decreases_loop
+returns c = sym (ascii_utf8 _ (sym c.before.is_ascii.ensures ∙ c.if-is_ascii.true))
 
-loop_holds : tie.Need-loop-init invariant_loop decreases_loop
-loop_holds c = (search rules, start _ _ c.after-tails.ensures)
+loop_holds : tie.Need-loop-i-init invariant_loop decreases_loop
+loop_holds c = (search rules, start _ _ c.after_tails-p.ensures)
 
-loop_again : tie.Need-loop-preserved invariant_loop decreases_loop
+loop_again : tie.Need-loop-i-preserved invariant_loop decreases_loop
 loop_again c =
     let l = c.before.before.before in
-    (search rules, turn _ _ _ _ c.before.before.loop-test.true l.loop.invariant.1 c.after-byte.ensures)
+    (search rules, turn _ _ _ _ c.before.before.loop-i-test.true l.loop-i.invariant.1 c.after_byte-p.ensures)
 
-returns_2 : tie.Need-returns-2 invariant_loop decreases_loop
-returns_2 c = ended _ _ _ c.before.loop-test.false c.before.before.loop.invariant.1
+returns_2 : tie.Need-returns invariant_loop decreases_loop
+returns_2 c = ended _ _ _ c.before.loop-i-test.false c.before.before.loop-i.invariant.1
 
 pub is_utf8_spec : {M : Type 1} → statement M
 is_utf8_spec =

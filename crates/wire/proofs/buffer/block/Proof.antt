@@ -7,7 +7,7 @@ use Rattle.wire.proofs.buffer.block.Tie as tie
 returns : tie.Need-returns
 returns c =
     let e = c.before.before.before.before.before.before in
-    by_block _ _ _ _ _ _ _ _ e.before.before.before.before.requires.1 e.each.ensures c.before.before.each2.ensures
+    by_block _ _ _ _ _ _ _ _ e.before.before.before.before.requires.1 e.each.ensures c.before.before.each-2.ensures
 
 pub block_spec : {M : Type 1} → statement M
 block_spec =

@@ -12,15 +12,15 @@ put_bytes_spec =
     tie.close
     (tie.spec
     (λ c κs. search rules)
-    (λ c. copied_cut _ _ _ _ _ (no_room _ _ _ c.before.has_room.ensures c.if1.true))
+    (λ c. copied_cut _ _ _ _ _ (no_room _ _ _ c.before.has_room.ensures c.if-not-has_room.true-raw))
     (λ c κs. search rules)
-    (λ c. copied_full _ _ _ _ _ (room _ _ _ c.before.before.before.has_room.ensures c.before.before.if1.false) (no_room _ _ _ c.before.has-room2.ensures c.if2.true))
-    (λ c κs. (room _ _ _ c.before.before.has-room2.ensures c.before.if2.false, room _ _ _ c.before.before.before.before.has_room.ensures c.before.before.before.if1.false))
+    (λ c. copied_full _ _ _ _ _ (room _ _ _ c.before.before.before.has_room.ensures c.before.before.if-not-has_room.false-raw) (no_room _ _ _ c.before.has_room-2.ensures c.if-not-has_room-2.true-raw))
+    (λ c κs. (room _ _ _ c.before.before.has_room-2.ensures c.before.if-not-has_room-2.false-raw, room _ _ _ c.before.before.before.before.has_room.ensures c.before.before.before.if-not-has_room.false-raw))
     (λ c.
     let r = c.before.before.before.before in
     let a = r.before.before.before.before.before.before.args in
-    omega (arith, room (a.at + a.len) _ _ r.before.has-room2.ensures r.if2.false))
+    omega (arith, room (a.at + a.len) _ _ r.before.has_room-2.ensures r.if-not-has_room-2.false-raw))
     (λ c. search rules)
     (λ c.
     let r = c.before.before.before.before in
-    copied_done _ _ _ _ _ _ (room _ _ _ r.before.before.before.has_room.ensures r.before.before.if1.false) (room _ _ _ r.before.has-room2.ensures r.if2.false) c.before.before.copy.ensures))
+    copied_done _ _ _ _ _ _ (room _ _ _ r.before.before.before.has_room.ensures r.before.before.if-not-has_room.false-raw) (room _ _ _ r.before.has_room-2.ensures r.if-not-has_room-2.false-raw) c.before.before.copy.ensures))

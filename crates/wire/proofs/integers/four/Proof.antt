@@ -34,4 +34,4 @@ four_spec =
     (λ c. search rules)
     (λ c κs. search rules)
     (λ c. search rules)
-    (λ c. sum _ _ _ _ _ _ c.before.before.before.one.ensures.0 c.before.before.one2.ensures.0 c.before.one3.ensures.0 c.one4.ensures.0))
+    (λ c. sum _ _ _ _ _ _ c.before.before.before.one.ensures.0 c.before.before.one-2.ensures.0 c.before.one-3.ensures.0 c.one-4.ensures.0))

@@ -13,6 +13,6 @@ number_or_zero_spec =
     (tie.spec
     (λ c κs. search rules)
     (λ c κs. search rules)
-    (λ c. rw (← c.before.before.bytes.ensures, ← c.before.has_room.ensures, not-true c.before.has_room.result c.if1.true))
-    (λ c κs. rw (← c.before.before.bytes.ensures) (room _ _ _ c.before.has_room.ensures c.if1.false))
-    (λ c. rw (c.number_there.ensures, ← c.before.before.before.bytes.ensures, ← c.before.before.has_room.ensures, not-false c.before.before.has_room.result c.before.if1.false)))
+    (λ c. rw (← c.before.before.bytes.ensures, ← c.before.has_room.ensures, not-true c.before.has_room.result c.if-not-has_room.true-raw))
+    (λ c κs. rw (← c.before.before.bytes.ensures) (room _ _ _ c.before.has_room.ensures c.if-not-has_room.false-raw))
+    (λ c. rw (c.number_there.ensures, ← c.before.before.before.bytes.ensures, ← c.before.before.has_room.ensures, not-false c.before.before.has_room.result c.before.if-not-has_room.false-raw)))

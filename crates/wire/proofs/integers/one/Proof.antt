@@ -18,5 +18,5 @@ one_spec =
     tie.close
     (tie.spec
     (λ c. search rules)
-    (λ c. omega (arith, c.shared-slice-known.given c.before.args.at))
-    (λ c. (there _ _, omega (arith, c.shared-slice-known.given c.before.args.at))))
+    (λ c. omega (arith, c.shared_slice_known-1.given c.before.args.at))
+    (λ c. (there _ _, omega (arith, c.shared_slice_known-1.given c.before.args.at))))

@@ -9,20 +9,20 @@ use Rattle.wire.proofs.Splice.{rest_start, digits_start, digits_turn, digits_end
 use Rattle.wire.proofs.integers.put_big_endian.Statement.{statement}
 use Rattle.wire.proofs.integers.put_big_endian.Tie as tie
 
-abbrev invariant_loop : tie.invariant_loop
+abbrev invariant_loop : tie.invariant-loop-i
 invariant_loop out₀ at n v x₀ i₀ out x i =
     (i ≤ n) × (length out ≡ length out₀) × (x ≡ v / 256 ^ (n - i)) × (out ≡ splice out₀ (at + i) (digits (n - i) v))
 
-abbrev decreases_loop : tie.decreases_loop
+abbrev decreases_loop : tie.decreases-loop-i
 decreases_loop out₀ at n v x₀ i₀ out x i = i
 
-loop_holds : tie.Need-loop-init invariant_loop decreases_loop
+loop_holds : tie.Need-loop-i-init invariant_loop decreases_loop
 loop_holds c = (search rules, refl, rest_start _ _, digits_start _ _ _ _)
 
-loop_again : tie.Need-loop-preserved invariant_loop decreases_loop
+loop_again : tie.Need-loop-i-preserved invariant_loop decreases_loop
 loop_again c =
-    let l = c.before.loop.invariant in
-    let p : 0 < c.before.loop.i = c.loop-test.true in (
+    let l = c.before.loop-i.invariant in
+    let p : 0 < c.before.loop-i.i = c.loop-i-test.true in (
       search rules,
       simp length-set l.1,
       rest_turn _ _ _ _ p l.0 l.2,
@@ -30,7 +30,7 @@ loop_again c =
     )
 
 returns : tie.Need-returns invariant_loop decreases_loop
-returns c = digits_end _ _ _ _ _ _ c.loop-test.false c.before.loop.invariant.3
+returns c = digits_end _ _ _ _ _ _ c.loop-i-test.false c.before.loop-i.invariant.3
 
 pub put_big_endian_spec : {M : Type 1} → statement M
 put_big_endian_spec =

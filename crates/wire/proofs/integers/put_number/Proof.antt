@@ -14,12 +14,12 @@ put_number_spec =
     (tie.spec
     (λ c κs. search rules)
     (λ c κs. search rules)
-    (λ c. put_not _ _ _ _ ((integers _).size _) (rw (← c.before.before.bytes.ensures) (no_room _ _ _ c.before.has_room.ensures c.if1.true)))
-    (λ c κs. room _ _ _ c.before.before.has_room.ensures c.before.if1.false)
+    (λ c. put_not _ _ _ _ ((integers _).size _) (rw (← c.before.before.bytes-n.ensures) (no_room _ _ _ c.before.has_room.ensures c.if-not-has_room.true-raw)))
+    (λ c κs. room _ _ _ c.before.before.has_room.ensures c.before.if-not-has_room.false-raw)
     (λ c.
     let r = c.before.before.before.before in
-    omega (arith, room (r.before.before.before.before.args.at + r.before.before.bytes.result) _ _ r.before.has_room.ensures r.if1.false))
+    omega (arith, room (r.before.before.before.before.args.at + r.before.before.bytes-n.result) _ _ r.before.has_room.ensures r.if-not-has_room.false-raw))
     (λ c. search rules)
     (λ c.
     let r = c.before.before.before.before in
-    rw (← r.before.before.bytes.ensures) (put_done _ _ _ _ _ ((integers _).size _) (room _ _ _ r.before.has_room.ensures r.if1.false) c.before.before.put-big-endian.ensures)))
+    rw (← r.before.before.bytes-n.ensures) (put_done _ _ _ _ _ ((integers _).size _) (room _ _ _ r.before.has_room.ensures r.if-not-has_room.false-raw) c.before.before.put_big_endian.ensures)))

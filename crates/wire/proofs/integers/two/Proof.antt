@@ -14,4 +14,4 @@ two_spec =
     (λ c. search rules)
     (λ c κs. search rules)
     (λ c. search rules)
-    (λ c. (rw (c.before.one.ensures.0, c.one2.ensures.0) (join 1 1 _ _), omega (arith, c.before.one.ensures.1, c.one2.ensures.1))))
+    (λ c. (rw (c.before.one.ensures.0, c.one-2.ensures.0) (join 1 1 _ _), omega (arith, c.before.one.ensures.1, c.one-2.ensures.1))))

@@ -20,4 +20,4 @@ has_room_spec =
     tie.close
     (tie.spec
     (λ c. let a = c.before.args in sym (lt-leb (a.at + a.n) a.len (omega arith)))
-    (λ c. rest _ _ _ c.if1.false))
+    (λ c. rest _ _ _ c.if-len-at.false))

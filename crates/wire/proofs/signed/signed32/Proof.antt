@@ -10,7 +10,7 @@ use Rattle.wire.proofs.TwosComplement.{below_half, above_half}
 use Rattle.wire.proofs.signed.signed32.Statement.{statement}
 use Rattle.wire.proofs.signed.signed32.Tie as tie
 
-rest : (c : tie.Else1) → 4294967295 - c.before.args.x < 2147483648
+rest : (c : tie.Else-x-lt2147483648) → 4294967295 - c.before.args.x < 2147483648
 rest c = omega arith
 
 pub signed32_spec : {M : Type 1} → statement M
@@ -21,5 +21,5 @@ signed32_spec =
     (λ c. search rules)
     (λ c. search rules)
     (λ c. minus_fits w32 _ (rest c))
-    (λ c. to_z_pos w32 c.if1.true ∙ sym (below_half 4 _ c.if1.true))
-    (λ c. to_z-of_z (minus_fits w32 _ (rest c)) ∙ minus_bits w32 _ (rest c) ∙ sym (above_half 4 _ c.if1.false)))
+    (λ c. to_z_pos w32 c.if-x-lt2147483648.true ∙ sym (below_half 4 _ c.if-x-lt2147483648.true))
+    (λ c. to_z-of_z (minus_fits w32 _ (rest c)) ∙ minus_bits w32 _ (rest c) ∙ sym (above_half 4 _ c.if-x-lt2147483648.false)))

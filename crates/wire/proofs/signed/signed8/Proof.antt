@@ -10,7 +10,7 @@ use Rattle.wire.proofs.TwosComplement.{below_half, above_half}
 use Rattle.wire.proofs.signed.signed8.Statement.{statement}
 use Rattle.wire.proofs.signed.signed8.Tie as tie
 
-rest : (c : tie.Else1) → 255 - c.before.args.x < 128
+rest : (c : tie.Else-x-lt128) → 255 - c.before.args.x < 128
 rest c = omega arith
 
 pub signed8_spec : {M : Type 1} → statement M
@@ -21,5 +21,5 @@ signed8_spec =
     (λ c. search rules)
     (λ c. search rules)
     (λ c. minus_fits w8 _ (rest c))
-    (λ c. to_z_pos w8 c.if1.true ∙ sym (below_half 1 _ c.if1.true))
-    (λ c. to_z-of_z (minus_fits w8 _ (rest c)) ∙ minus_bits w8 _ (rest c) ∙ sym (above_half 1 _ c.if1.false)))
+    (λ c. to_z_pos w8 c.if-x-lt128.true ∙ sym (below_half 1 _ c.if-x-lt128.true))
+    (λ c. to_z-of_z (minus_fits w8 _ (rest c)) ∙ minus_bits w8 _ (rest c) ∙ sym (above_half 1 _ c.if-x-lt128.false)))

@@ -6,11 +6,11 @@ use Rattle.wire.proofs.Casts.{Below, below, NotBelow, not_below, turned_fits, tu
 use Rattle.wire.proofs.signed.unsigned64.Statement.{statement}
 use Rattle.wire.proofs.signed.unsigned64.Tie as tie
 
-turned : (c : tie.Then1) → Below w64 c.before.args.x
-turned c = below w64 _ c.before.ranges.x c.if1.true
+turned : (c : tie.Then-x-lt0) → Below w64 c.before.args.x
+turned c = below w64 _ c.before.ranges.x c.if-x-lt0.true
 
-kept : (c : tie.Else1) → NotBelow w64 c.before.args.x
-kept c = not_below w64 _ c.before.ranges.x c.if1.false
+kept : (c : tie.Else-x-lt0) → NotBelow w64 c.before.args.x
+kept c = not_below w64 _ c.before.ranges.x c.if-x-lt0.false
 
 pub unsigned64_spec : {M : Type 1} → statement M
 unsigned64_spec =
