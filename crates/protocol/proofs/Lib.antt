@@ -1,7 +1,7 @@
 -- Lemmas that belong to no one function.
 pub mod Unlisted
 pub mod FieldNumbers
-pub mod Picked
+pub mod PickedRows
 pub mod Counted
 pub mod FrameRows
 pub mod Numbers

@@ -16,4 +16,4 @@ put_decimal_spec =
     (λ c. search rules)
     (λ c κs. search rules)
     (λ c. search rules)
-    (λ c. let d = c.before.before.before.before.before.decimal-k in c.before.before.put_word.ensures ∙ ap (put _ _) (d.ensures.1.1 ∙ decimal_digits _ _ (omega arith) d.ensures.1.0)))
+    (λ c. let d = c.before.before.before.before.before.decimal-k in c.before.before.put_word.ensures ∙ ap (put _ _) (d.ensures.1.1.0 ∙ decimal_digits _ _ (omega arith) d.ensures.1.0)))

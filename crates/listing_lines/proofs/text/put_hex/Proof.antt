@@ -18,4 +18,4 @@ put_hex_spec =
     (λ c. search rules)
     (λ c κs. search rules)
     (λ c. search rules)
-    (λ c. let d = c.before.before.before.before.before.hex-k in c.before.before.put_word.ensures ∙ ap (put _ _) (d.ensures.1.1 ∙ hex_digits _ _ _ (omega arith) d.ensures.1.0)))
+    (λ c. let d = c.before.before.before.before.before.hex-k in c.before.before.put_word.ensures ∙ ap (put _ _) (d.ensures.1.1.0 ∙ hex_digits _ _ _ (omega arith) d.ensures.1.0)))

@@ -1,5 +1,5 @@
 -- By the versions that the key has, and by the version.
-use Rattle.protocol.proofs.Picked.{no_key, is_first, not_first, is_second, not_second}
+use Rattle.protocol.proofs.PickedRows.{no_key, is_first, not_first, is_second, not_second}
 use Rattle.protocol.proofs.layout.layout_of.Statement.{statement}
 use Rattle.protocol.proofs.layout.layout_of.Tie as tie
 
