@@ -36,4 +36,4 @@ write_offset_spec =
     (λ c. search rules)
     (λ c. rw c.before.before.before.before.in-Offset.is c.before.before.write_position.ensures)
     (λ c. search rules)
-    (λ c. rw c.before.before.before.before.in-Timestamp.is (same_timestamp c.before.before.before.before.before.before.args.admits-none c.before.before.before.before.in-Timestamp.z _ _ _ (to_z-of_z {w = w64} (sfits_of c.before.before.before.before.in-Timestamp.known_told-in-Timestamp-1-own.given.0.1)) c.before.before.write_timestamp.ensures)))
+    (λ c. rw c.before.before.before.before.in-Timestamp.is (same_timestamp c.before.before.before.before.before.before.args.admits_none c.before.before.before.before.in-Timestamp.z _ _ _ (to_z-of_z {w = w64} (sfits_of c.before.before.before.before.in-Timestamp.known_told-in-Timestamp-1-own.given.0.1)) c.before.before.write_timestamp.ensures)))
