@@ -110,7 +110,10 @@ def turned(path, text, to, top):
     of_function = parts[2] == "proofs" and len(parts) > 4
     is_rust = path.suffix == ".rt"
     comment = "//" if is_rust else "--"
-    if not is_rust:
+    if is_rust:
+        # A function of the source keeps its name, whatever a lemma gets.
+        to = {o: n for o, n in to.items() if not n.endswith("_lem")}
+    else:
         # A lemma of this file that would get the name of a definition that the file uses.
         bare = "\n".join(lines_of(text))
         used = {snake(t) for t in re.findall(WORD, bare) if CAMEL.fullmatch(t)}

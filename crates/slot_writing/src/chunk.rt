@@ -94,11 +94,11 @@ fn header_fits(slots: &[u64], at: usize) -> bool
     let trailer_length = slot(slots, at, 9);
     let bloom_size = slot(slots, at, 10);
     let reserved = slot(slots, at, 11);
-    fits_signed_lem(magic, 0x80)
-        & fits_signed_lem(kind, 0x80)
+    fits_signed(magic, 0x80)
+        & fits_signed(kind, 0x80)
         & (entries < 0x1_0000)
         & (records < 0x1_0000_0000)
-        & fits_signed_lem(checksum, 0x8000_0000)
+        & fits_signed(checksum, 0x8000_0000)
         & (data_length < 0x1_0000_0000)
         & (trailer_length < 0x1_0000_0000)
         & (bloom_size < 0x100)
@@ -106,7 +106,7 @@ fn header_fits(slots: &[u64], at: usize) -> bool
 }
 
 // A signed number's 64 bits fit a field that has so many numbers that are not negative.
-fn fits_signed_lem(x: u64, half: u64) -> bool
+fn fits_signed(x: u64, half: u64) -> bool
     ensures { result ≡ narrow_fits half x }
 {
     if x < 0x8000_0000_0000_0000 {

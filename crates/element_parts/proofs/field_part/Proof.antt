@@ -15,7 +15,7 @@ field_part_spec =
     (tie.spec
     (λ c κs. search rules)
     (λ c. search rules)
-    (λ c. refused_part (element_row c.before.before.before.before.args.kind) _ _ _ _ _ _ c.before.before.element.ensures.0 c.before.if1.true)
+    (λ c. refused_part (element_row c.before.before.before.before.args.kind) _ _ _ _ _ _ c.before.element.ensures.0 c.if-element-ne0.true)
     (λ c κs. search rules)
     (λ c κs. search rules)
     (λ c.

@@ -12,7 +12,7 @@ part_spec =
     (tie.spec
     (λ c κs. search rules)
     (λ c. search rules)
-    (λ c. rw (sym c.before.before.is-outside.ensures ∙ c.before.if1.true))
+    (λ c. rw (sym c.before.is_outside.ensures ∙ c.if-is_outside.true))
     (λ c.
     let inside = c.before in
     let start = inside.before.before.before in

@@ -18,10 +18,10 @@ invariant_loop s start fields at₀ i₀ at i =
 abbrev decreases_loop : tie.decreases-loop-i
 decreases_loop s start fields at₀ i₀ at i = 6 - i
 
-more : (c : tie.In-loop-i invariant_loop decreases_loop) → c.before.loop-i.i < length c.before.before.before.args.t3
+more : (c : tie.In-loop-i invariant_loop decreases_loop) → c.before.loop-i.i < length c.before.before.before.args.fields
 more c = let l = c.before.loop-i.invariant.1 in omega arith
 
-last : (c : tie.After-loop-i invariant_loop decreases_loop) → c.before.loop-i.i ≡ length c.before.before.before.args.t3
+last : (c : tie.After-loop-i invariant_loop decreases_loop) → c.before.loop-i.i ≡ length c.before.before.before.args.fields
 last c = let l = c.before.loop-i.invariant.1 in omega arith
 
 pub row_end_spec : {M : Type 1} → statement M

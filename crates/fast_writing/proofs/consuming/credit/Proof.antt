@@ -34,5 +34,5 @@ credit_spec =
     let narrow = limit.before in
     let short = narrow.before.before in
     let start = short.before.before.before.before.before in
-    frame_put 0x0009 _ _ start.before.args.out.now _ _ _ _ (credit_row start.before.args.slots.now [] (room _ _ _ short.before.is_number.ensures short.if-not-is_number.false-raw) (room _ _ _ narrow.before.is_number-2.ensures narrow.if-not-is_number-2.false-raw)) (limit.fits2.ensures.0 (not-false _ roomy.if-not-fits.false-raw))
+    frame_put 0x0009 _ _ start.before.args.out.now _ _ _ _ (credit_row start.before.args.slots.now [] (room _ _ _ short.before.is_number.ensures short.if-not-is_number.false-raw) (room _ _ _ narrow.before.is_number-2.ensures narrow.if-not-is_number-2.false-raw)) (limit.fits.ensures.0 (not-false _ roomy.if-not-fits.false-raw))
     (put_next _ _ _ _ _ _ (put_next _ _ _ _ _ _ head.put_head-next.ensures first.put_number-next.ensures) last.put_number.ensures)))

@@ -46,7 +46,7 @@ deliver_spec =
     (λ c.
     let roomy = c.before.before.before.before.before.before.before.before.before.before.before.before.before in
     let limit = roomy.before in
-    omega (arith, (limit.fits2.ensures.0 (not-false _ roomy.if-not-fits.false-raw)).bound))
+    omega (arith, (limit.fits.ensures.0 (not-false _ roomy.if-not-fits.false-raw)).bound))
     (λ c. search rules)
     (λ c.
     let last = c.before.before in
@@ -62,5 +62,5 @@ deliver_spec =
     let header = unflat_header (drop 3 start.before.args.slots.now) in
     let part = place (get_or (drop 3 start.before.args.slots.now) 12 0) (get_or (drop 3 start.before.args.slots.now) 13 0) in
     let w = written src header part _ chunk.chunk_refusal-number.ensures passed.if-number-ne0.false in
-    frame_put 0x0008 _ _ start.before.args.out.now _ _ _ _ (deliver_row start.before.args.slots.now src (room _ _ _ short.before.is_number.ensures short.if-not-is_number.false-raw) w) (limit.fits2.ensures.0 (not-false _ roomy.if-not-fits.false-raw))
+    frame_put 0x0008 _ _ start.before.args.out.now _ _ _ _ (deliver_row start.before.args.slots.now src (room _ _ _ short.before.is_number.ensures short.if-not-is_number.false-raw) w) (limit.fits.ensures.0 (not-false _ roomy.if-not-fits.false-raw))
     (chunk_next src header part _ _ _ _ _ w.inside (put_next _ _ _ _ _ _ head.put_head-next.ensures first.put_number-next.ensures) last.put_chunk.ensures)))

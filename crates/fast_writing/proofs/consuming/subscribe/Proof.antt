@@ -66,7 +66,7 @@ subscribe_spec =
     (λ c.
     let roomy = c.before.before.before.before.before.before.before.before.before.before.before.before.before.before.before.before.before.before.before.before.before.before.before.before.before.before.before.before.before.before.before.before.before.before.before.before in
     let limit = roomy.before in
-    omega (arith, (limit.fits2.ensures.0 (not-false _ roomy.if-not-fits.false-raw)).bound))
+    omega (arith, (limit.fits.ensures.0 (not-false _ roomy.if-not-fits.false-raw)).bound))
     (λ c.
     let o9 = c.before in
     let o8 = o9.before.before.before.before in
@@ -103,5 +103,5 @@ subscribe_spec =
     let w = plain_written _ Property start.before.args.src.now (get_or start.before.args.slots.now 9 0) (get_or start.before.args.slots.now 10 0) (get_or start.before.args.slots.now 11 0) _ kind.plain_list.ensures list.list_refusal.ensures listed.if-list_refusal-ne0.false in
     let src = start.before.args.src.now in
     let s = start.before.args.slots.now in
-    frame_put 0x0007 _ _ start.before.args.out.now _ _ _ _ (subscribe_row s src t w (room _ _ _ known.before.is_number.ensures known.if-not-is_number.false-raw) (room _ _ _ short.before.is_number-2.ensures short.if-not-is_number-2.false-raw) from.if-slots-ne4.false offset.put_eight-next.ensures.1 (room _ _ _ credit.before.is_number-3.ensures credit.if-not-is_number-3.false-raw)) (limit.fits2.ensures.0 (not-false _ roomy.if-not-fits.false-raw))
+    frame_put 0x0007 _ _ start.before.args.out.now _ _ _ _ (subscribe_row s src t w (room _ _ _ known.before.is_number.ensures known.if-not-is_number.false-raw) (room _ _ _ short.before.is_number-2.ensures short.if-not-is_number-2.false-raw) from.if-slots-ne4.false offset.put_eight-next.ensures.1 (room _ _ _ credit.before.is_number-3.ensures credit.if-not-is_number-3.false-raw)) (limit.fits.ensures.0 (not-false _ roomy.if-not-fits.false-raw))
     (part_next src _ _ _ _ _ _ _ w.inside (put_next _ _ _ _ _ _ (put_next _ _ _ _ _ _ (eight_next _ _ _ _ _ _ (put_next _ _ _ _ _ _ (text_next src _ _ _ _ _ _ _ t.inside (put_next _ _ _ _ _ _ (put_next _ _ _ _ _ _ head.put_head-next.ensures first.put_number-next.ensures) second.put_number-next-2.ensures) text.put_text-next.ensures) type.put_number-next-3.ensures) offset.put_eight-next.ensures.0) granted.put_number-next-4.ensures) number.put_number-next-5.ensures) last.put_bytes.ensures)))

@@ -49,7 +49,7 @@ declare_publisher_spec =
     (λ c.
     let roomy = c.before.before.before.before.before.before.before.before.before.before.before.before.before.before.before.before.before.before.before.before in
     let limit = roomy.before in
-    omega (arith, (limit.fits2.ensures.0 (not-false _ roomy.if-not-fits.false-raw)).bound))
+    omega (arith, (limit.fits.ensures.0 (not-false _ roomy.if-not-fits.false-raw)).bound))
     (λ c. search rules)
     (λ c.
     let last = c.before.before in
@@ -67,5 +67,5 @@ declare_publisher_spec =
     let t = referred stream in
     let u = named whole in
     let src = start.before.args.src.now in
-    frame_put 0x0001 _ _ start.before.args.out.now _ _ _ _ (declare_row start.before.args.slots.now src t u (room _ _ _ known.before.is_number.ensures known.if-not-is_number.false-raw) (room _ _ _ short.before.is_number-2.ensures short.if-not-is_number-2.false-raw)) (limit.fits2.ensures.0 (not-false _ roomy.if-not-fits.false-raw))
+    frame_put 0x0001 _ _ start.before.args.out.now _ _ _ _ (declare_row start.before.args.slots.now src t u (room _ _ _ known.before.is_number.ensures known.if-not-is_number.false-raw) (room _ _ _ short.before.is_number-2.ensures short.if-not-is_number-2.false-raw)) (limit.fits.ensures.0 (not-false _ roomy.if-not-fits.false-raw))
     (text_next src _ _ _ _ _ _ _ u.inside (text_next src _ _ _ _ _ _ _ t.inside (put_next _ _ _ _ _ _ (put_next _ _ _ _ _ _ head.put_head-next.ensures first.put_number-next.ensures) second.put_number-next-2.ensures) third.put_text-next.ensures) last.put_text.ensures)))

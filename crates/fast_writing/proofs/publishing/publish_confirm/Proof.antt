@@ -38,7 +38,7 @@ publish_confirm_spec =
     (λ c.
     let roomy = c.before.before.before.before.before.before.before.before.before.before.before.before.before.before.before.before in
     let limit = roomy.before in
-    omega (arith, (limit.fits2.ensures.0 (not-false _ roomy.if-not-fits.false-raw)).bound))
+    omega (arith, (limit.fits.ensures.0 (not-false _ roomy.if-not-fits.false-raw)).bound))
     (λ c. search rules)
     (λ c.
     let last = c.before.before in
@@ -53,5 +53,5 @@ publish_confirm_spec =
     let start = short.before.before.before.before.before.before.before.before in
     let w = list_written plain (unsigned 8 0xffff_ffff_ffff_ffff · end) start.before.args.src.now (get_or start.before.args.slots.now 3 0) (get_or start.before.args.slots.now 4 0) (get_or start.before.args.slots.now 5 0) _ list.numbers_refusal.ensures listed.if-numbers_refusal-ne0.false in
     let src = start.before.args.src.now in
-    frame_put 0x0003 _ _ start.before.args.out.now _ _ _ _ (confirm_row start.before.args.slots.now src (room _ _ _ short.before.is_number.ensures short.if-not-is_number.false-raw) w) (limit.fits2.ensures.0 (not-false _ roomy.if-not-fits.false-raw))
+    frame_put 0x0003 _ _ start.before.args.out.now _ _ _ _ (confirm_row start.before.args.slots.now src (room _ _ _ short.before.is_number.ensures short.if-not-is_number.false-raw) w) (limit.fits.ensures.0 (not-false _ roomy.if-not-fits.false-raw))
     (part_next src _ _ _ _ _ _ _ w.inside (put_next _ _ _ _ _ _ (put_next _ _ _ _ _ _ head.put_head-next.ensures first.put_number-next.ensures) second.put_number-next-2.ensures) last.put_bytes.ensures)))

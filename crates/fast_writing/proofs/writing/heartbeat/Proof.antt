@@ -20,4 +20,4 @@ heartbeat_spec =
     let last = head.before.before in
     let room = last.before in
     let start = room.before.before in
-    frame_put 0x0017 _ _ start.args.out.now _ _ _ _ (heartbeat_row [] []) (room.fits2.ensures.0 (not-false _ last.if-not-fits.false-raw)) head.put_head.ensures))
+    frame_put 0x0017 _ _ start.args.out.now _ _ _ _ (heartbeat_row [] []) (room.fits.ensures.0 (not-false _ last.if-not-fits.false-raw)) head.put_head.ensures))

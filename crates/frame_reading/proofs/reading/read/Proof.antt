@@ -41,7 +41,7 @@ read_spec =
     let h = l.before.before.before in
     let a = h.before.before.before.args in
     all_told (read_frame a.bytes.now a.limit) a.slots.now _ _ (answered _ _ a.slots.now _ _ (cut a.bytes.now a.limit _ h.head_of-size.ensures h.before.if-bytes-lt4.false (within l) c.before.if-size-lt4.false c.if-bytes-end.true) (refl, refl)))
-    (λ c. sym (length-take-le _ _ c.before.if4.false))
+    (λ c. sym (length-take-le _ _ c.if-bytes-end.false))
     (λ c κs. search rules)
     (λ c. search rules)
     (λ c. search rules)
@@ -49,8 +49,8 @@ read_spec =
     (λ c κs. search rules)
     (λ c.
     let second = c.before.before.before in
-    let t = second.before.before in
+    let t = second.before in
     let l = t.before.before in
     let h = l.before.before.before in
-    let a = h.before.before.args in
-    all_told (read_frame a.bytes.now a.limit) a.slots.now _ _ (answered _ _ a.slots.now _ _ (whole a.bytes.now a.limit _ h.head_of.ensures h.before.if1.false (within l) t.before.if3.false _ _ refl t.if4.false second.head_of-head.ensures) c.read_whole.ensures)))
+    let a = h.before.before.before.args in
+    all_told (read_frame a.bytes.now a.limit) a.slots.now _ _ (answered _ _ a.slots.now _ _ (whole a.bytes.now a.limit _ h.head_of-size.ensures h.before.if-bytes-lt4.false (within l) t.before.if-size-lt4.false _ _ refl t.if-bytes-end.false second.head_of-head.ensures) c.read_whole.ensures)))

@@ -18,4 +18,4 @@ message_spec =
     (λ c.
     let found = c.before in
     c.part.ensures ∙ ap (message_part _) (ap place_answer (sym found.in-Place.is) ∙ found.before.message_in.ensures))
-    (λ c. ap (message_part _) (ap place_answer (sym c.enum_told.given.1) ∙ c.before.before.message-in.ensures)))
+    (λ c. ap (message_part _) (ap place_answer (sym c.in-Refused.is) ∙ c.before.message_in.ensures)))

@@ -20,10 +20,10 @@ invariant_loop s start base slots₀ first fields at₀ slot₀ i₀ slots at sl
 abbrev decreases_loop : tie.decreases-loop-i
 decreases_loop s start base slots₀ first fields at₀ slot₀ i₀ slots at slot i = 6 - i
 
-more : (c : tie.In-loop-i invariant_loop decreases_loop) → c.before.loop-i.i < length c.before.before.before.before.args.t4
+more : (c : tie.In-loop-i invariant_loop decreases_loop) → c.before.loop-i.i < length c.before.before.before.before.args.fields
 more c = let l = c.before.loop-i.invariant.2 in omega arith
 
-last : (c : tie.After-loop-i invariant_loop decreases_loop) → c.before.loop-i.i ≡ length c.before.before.before.before.args.t4
+last : (c : tie.After-loop-i invariant_loop decreases_loop) → c.before.loop-i.i ≡ length c.before.before.before.before.args.fields
 last c = let l = c.before.loop-i.invariant.2 in omega arith
 
 pub read_fields_spec : {M : Type 1} → statement M
