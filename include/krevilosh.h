@@ -1,7 +1,7 @@
 /*
  * Krevilosh: RabbitMQ Streams frames, read and written, and the credit and publisher ledgers of one connection.
  *
- * Link with libkrevilosh.a, which `rt staticlib krevilosh` writes to target/staticlib/. Nothing here allocates, keeps a
+ * Link with libkrevilosh.a, which `tests/archive` writes to target/staticlib/. Nothing here allocates, keeps a
  * pointer, writes to a global variable or calls back, so every function may be called from any thread, as long as two
  * calls do not share an array that one of them changes.
  *

@@ -2,7 +2,6 @@
 // `Stop`, where reading stopped, which every reader answers with.
 #![tactic(auto)]
 
-
 mod ends;
 mod stop;
 mod string;

@@ -1,7 +1,6 @@
 // Where the elements of a list end, or why one is refused.
 #![tactic(auto)]
 
-
 mod element;
 mod elements;
 

@@ -2,7 +2,6 @@
 // and a writer for each kind, byte strings too.
 #![tactic(auto)]
 
-
 mod number;
 mod offset;
 mod source;

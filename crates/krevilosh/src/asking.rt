@@ -6,8 +6,7 @@ ghost use Rattle.questions.specs.Questions.{number_of};
 ghost use Rattle.slot_questions.specs.Asked.{ask_element, ask_message, shape_of};
 
 // The element at an index of a list, given by its count and the place of its elements in the source.
-#[unsafe(no_mangle)]
-pub extern "C" fn krevilosh_element(
+pub fn krevilosh_element(
     shape: u8,
     source: &[u8],
     count: u64,
@@ -23,8 +22,7 @@ pub extern "C" fn krevilosh_element(
 }
 
 // The message at an index of the chunk in a flat Deliver.
-#[unsafe(no_mangle)]
-pub extern "C" fn krevilosh_message(
+pub fn krevilosh_message(
     frame: &[u64; 24],
     source: &[u8],
     index: u64,

@@ -9,31 +9,27 @@ ghost use Rattle.krevilosh.specs.Answer.{refusal_answer};
 use crate::changes::changed;
 
 // Closes all ids, whatever the ledger held.
-#[unsafe(no_mangle)]
-pub extern "C" fn krevilosh_credit_empty(credits: &mut [u32; 257])
+pub fn krevilosh_credit_empty(credits: &mut [u32; 257])
     ensures { credits.new ≡ empty }
 {
     credit_ledger::clear(credits);
 }
 
-#[unsafe(no_mangle)]
-pub extern "C" fn krevilosh_credit_open(credits: &mut [u32; 257], id: u8, balance: u16) -> u64
+pub fn krevilosh_credit_open(credits: &mut [u32; 257], id: u8, balance: u16) -> u64
     ensures value { result ≡ refusal_answer (credit_refusal (answer credits.old (opening id balance))) }
     ensures credits_after { credits.new ≡ after credits.old (opening id balance) }
 {
     changed(credit_ledger::open(credits, id, balance))
 }
 
-#[unsafe(no_mangle)]
-pub extern "C" fn krevilosh_credit_grant(credits: &mut [u32; 257], id: u8, more: u16) -> u64
+pub fn krevilosh_credit_grant(credits: &mut [u32; 257], id: u8, more: u16) -> u64
     ensures value { result ≡ refusal_answer (credit_refusal (answer credits.old (grant id more))) }
     ensures credits_after { credits.new ≡ after credits.old (grant id more) }
 {
     changed(credit_ledger::grant(credits, id, more))
 }
 
-#[unsafe(no_mangle)]
-pub extern "C" fn krevilosh_credit_close(credits: &mut [u32; 257], id: u8) -> u64
+pub fn krevilosh_credit_close(credits: &mut [u32; 257], id: u8) -> u64
     ensures value { result ≡ refusal_answer (credit_refusal (answer credits.old (closing id))) }
     ensures credits_after { credits.new ≡ after credits.old (closing id) }
 {

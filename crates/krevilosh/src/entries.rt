@@ -7,8 +7,7 @@ use crate::packed;
 use chunk_reader::Found;
 
 // Opens a chunk, header first, which is checked as the rest of a Deliver is.
-#[unsafe(no_mangle)]
-pub extern "C" fn krevilosh_chunk_open(chunk: &[u8], reader: &mut [u64; 4]) -> u64
+pub fn krevilosh_chunk_open(chunk: &[u8], reader: &mut [u64; 4]) -> u64
     ensures value { result ≡ open_number chunk.now }
     ensures reader_after { reader.new ≡ reader_opened chunk.now reader.old }
 {
@@ -16,12 +15,7 @@ pub extern "C" fn krevilosh_chunk_open(chunk: &[u8], reader: &mut [u64; 4]) -> u
 }
 
 // The next entry, if one is left.
-#[unsafe(no_mangle)]
-pub extern "C" fn krevilosh_chunk_next(
-    chunk: &[u8],
-    reader: &mut [u64; 4],
-    entry: &mut [u64; 8],
-) -> u64
+pub fn krevilosh_chunk_next(chunk: &[u8], reader: &mut [u64; 4], entry: &mut [u64; 8]) -> u64
     ensures value { result ≡ next_answer (next_found chunk.now reader.old) }
     ensures reader_after { reader.new ≡ reader_after chunk.now reader.old }
     ensures after { entry.new ≡ entry_after chunk.now reader.old entry.old }

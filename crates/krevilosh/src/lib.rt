@@ -13,6 +13,18 @@ mod publishers;
 mod reading;
 mod writing;
 
+pub use asking::{krevilosh_element, krevilosh_message};
+pub use credits::{
+    krevilosh_credit_close, krevilosh_credit_empty, krevilosh_credit_grant, krevilosh_credit_open,
+};
+pub use entries::{krevilosh_chunk_next, krevilosh_chunk_open};
+pub use publishers::{
+    krevilosh_publisher_confirm, krevilosh_publisher_declare, krevilosh_publisher_delete,
+    krevilosh_publisher_empty, krevilosh_publisher_send,
+};
+pub use reading::{krevilosh_credit_receive, krevilosh_read};
+pub use writing::krevilosh_write;
+
 // A refusal's number, or 0, and a value above it.
 fn packed(number: u8, value: u64) -> u64
     requires { value < 0x100_0000_0000_0000 }

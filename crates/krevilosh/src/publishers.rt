@@ -9,31 +9,27 @@ ghost use Rattle.krevilosh.specs.Answer.{or_zero};
 use crate::changes::changed;
 
 // Closes all ids, whatever the ledger held.
-#[unsafe(no_mangle)]
-pub extern "C" fn krevilosh_publisher_empty(publishers: &mut [u32; 257])
+pub fn krevilosh_publisher_empty(publishers: &mut [u32; 257])
     ensures { publishers.new ≡ empty }
 {
     publisher_ledger::clear(publishers);
 }
 
-#[unsafe(no_mangle)]
-pub extern "C" fn krevilosh_publisher_declare(publishers: &mut [u32; 257], id: u8) -> u64
+pub fn krevilosh_publisher_declare(publishers: &mut [u32; 257], id: u8) -> u64
     ensures value { result ≡ or_zero (refusal_number (answer publishers.old (declaration id))) }
     ensures publishers_after { publishers.new ≡ after publishers.old (declaration id) }
 {
     changed(publisher_ledger::declare(publishers, id))
 }
 
-#[unsafe(no_mangle)]
-pub extern "C" fn krevilosh_publisher_delete(publishers: &mut [u32; 257], id: u8) -> u64
+pub fn krevilosh_publisher_delete(publishers: &mut [u32; 257], id: u8) -> u64
     ensures value { result ≡ or_zero (refusal_number (answer publishers.old (deletion id))) }
     ensures publishers_after { publishers.new ≡ after publishers.old (deletion id) }
 {
     changed(publisher_ledger::delete(publishers, id))
 }
 
-#[unsafe(no_mangle)]
-pub extern "C" fn krevilosh_publisher_send(publishers: &mut [u32; 257], id: u8, n: u32) -> u64
+pub fn krevilosh_publisher_send(publishers: &mut [u32; 257], id: u8, n: u32) -> u64
     ensures value { result ≡ or_zero (refusal_number (answer publishers.old (sending id n))) }
     ensures publishers_after { publishers.new ≡ after publishers.old (sending id n) }
 {
@@ -41,8 +37,7 @@ pub extern "C" fn krevilosh_publisher_send(publishers: &mut [u32; 257], id: u8, 
 }
 
 // Confirmed or in error.
-#[unsafe(no_mangle)]
-pub extern "C" fn krevilosh_publisher_confirm(publishers: &mut [u32; 257], id: u8, n: u32) -> u64
+pub fn krevilosh_publisher_confirm(publishers: &mut [u32; 257], id: u8, n: u32) -> u64
     ensures value { result ≡ or_zero (refusal_number (answer publishers.old (confirming id n))) }
     ensures publishers_after { publishers.new ≡ after publishers.old (confirming id n) }
 {

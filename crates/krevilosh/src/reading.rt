@@ -16,8 +16,7 @@ use frame_reading::FrameRead;
 use protocol::refusal;
 
 // The frame at the start of the bytes, under a frame limit, into the frame's slots.
-#[unsafe(no_mangle)]
-pub extern "C" fn krevilosh_read(bytes: &[u8], limit: u32, frame: &mut [u64; 24]) -> u64
+pub fn krevilosh_read(bytes: &[u8], limit: u32, frame: &mut [u64; 24]) -> u64
     ensures value { result ≡ refusal_answer (reading_refusal (read_frame bytes.now limit)) }
     ensures frame_after { frame.new ≡ flat.slots_after frame.old (read_frame bytes.now limit) }
 {
@@ -26,8 +25,7 @@ pub extern "C" fn krevilosh_read(bytes: &[u8], limit: u32, frame: &mut [u64; 24]
 }
 
 // Reads a frame, and takes one credit from its subscription if it is a Deliver.
-#[unsafe(no_mangle)]
-pub extern "C" fn krevilosh_credit_receive(
+pub fn krevilosh_credit_receive(
     credits: &mut [u32; 257],
     bytes: &[u8],
     limit: u32,

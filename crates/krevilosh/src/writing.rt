@@ -7,13 +7,7 @@ use crate::packed;
 use frame_writing::Written;
 
 // The flat frame, whose places are in the source, to the start of out, under a frame limit.
-#[unsafe(no_mangle)]
-pub extern "C" fn krevilosh_write(
-    frame: &[u64; 24],
-    source: &[u8],
-    limit: u32,
-    out: &mut [u8],
-) -> u64
+pub fn krevilosh_write(frame: &[u64; 24], source: &[u8], limit: u32, out: &mut [u8]) -> u64
     ensures value { result ≡ written_answer (write_flat frame.now source.now limit out.old).answer }
     ensures out_after { out.new ≡ (write_flat frame.now source.now limit out.old).out }
 {

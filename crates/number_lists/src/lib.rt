@@ -1,7 +1,6 @@
 // What every list has: its count, and the checks before and after its elements. And lists of numbers, which need no walk.
 #![tactic(auto)]
 
-
 mod checks;
 mod count;
 mod fixed;

@@ -27,7 +27,7 @@ last : (c : tie.After-loop-i invariant_loop decreases_loop) → c.before.loop-i.
 last c = let l = c.before.loop-i.invariant.2 in omega arith
 
 -- The numbers are those of the element's row.
-whole : (c : tie.After-element_fields-fields invariant_loop decreases_loop) → let a = c.before.args in place_in a.field (unflat_row (row_from c.element_fields-fields.result) a.t3) ≡ place_in a.field (unflat_row (element_row a.kind) a.t3)
+whole : (c : tie.After-element_fields-fields invariant_loop decreases_loop) → let a = c.before.args in place_in a.field (unflat_row (row_from c.element_fields-fields.result) a.fields) ≡ place_in a.field (unflat_row (element_row a.kind) a.fields)
 whole c = rw c.element_fields-fields.ensures.0
 
 pub place_in_spec : {M : Type 1} → statement M
@@ -51,7 +51,7 @@ place_in_spec =
     let a = l.before.before.args in
     let kind = k.field_kind-kind.ensures in
     let shown = rw kind at (c.field_place.ensures s small) in
-    shown ∙ ap (octets_in s) (field_reached l.before.element_fields-fields.result a.t3 l.loop-i.i l.loop-i.at l.loop-i.before _ (more k.before) (rw kind at n.slots_of-n.ensures.0) c.before.before.before.if-n-ne0.true c.before.before.if-before-eq0.true ∙ v.3 ∙ whole l.before))
+    shown ∙ ap (octets_in s) (field_reached l.before.element_fields-fields.result a.fields l.loop-i.i l.loop-i.at l.loop-i.before _ (more k.before) (rw kind at n.slots_of-n.ensures.0) c.before.before.before.if-n-ne0.true c.before.before.if-before-eq0.true ∙ v.3 ∙ whole l.before))
     (λ c. search rules)
     (λ c. let n = c.before.before in let l = n.before.before.before in omega (arith, l.loop-i.invariant.0, l.loop-i.invariant.1, n.slots_of-n.ensures.1))
     (λ c. search rules)
@@ -66,11 +66,11 @@ place_in_spec =
     let m = rw k.field_kind-kind.ensures at n.slots_of-n.ensures.0 in
     let slots-most = n.slots_of-n.ensures.1 in
     ⊎_elim
-    (λ w. (search rules, omega (arith, w.3, v.1, slots-most), v.2, rw (w.2, w.3) (field_passed f a.t3 l.loop-i.i l.loop-i.at l.loop-i.before _ (more k.before) m w.0.taken w.1.left ∙ v.3)))
-    (λ w. (search rules, omega (arith, w.2, v.1), v.2, rw (w.1, w.2) (none_passed f a.t3 l.loop-i.i l.loop-i.at l.loop-i.before _ (more k.before) m w.0.left ∙ v.3)))
+    (λ w. (search rules, omega (arith, w.3, v.1, slots-most), v.2, rw (w.2, w.3) (field_passed f a.fields l.loop-i.i l.loop-i.at l.loop-i.before _ (more k.before) m w.0.taken w.1.left ∙ v.3)))
+    (λ w. (search rules, omega (arith, w.2, v.1), v.2, rw (w.1, w.2) (none_passed f a.fields l.loop-i.i l.loop-i.at l.loop-i.before _ (more k.before) m w.0.left ∙ v.3)))
     c.if-n-ne0.branch)
     (λ c s small.
     let l = c.before in
     let v = l.loop-i.invariant in
     let a = l.before.before.args in
-    empty s small ∙ ap (octets_in s) (none_left l.before.element_fields-fields.result a.t3 l.loop-i.i l.loop-i.at l.loop-i.before (last c) ∙ v.3 ∙ whole l.before)))
+    empty s small ∙ ap (octets_in s) (none_left l.before.element_fields-fields.result a.fields l.loop-i.i l.loop-i.at l.loop-i.before (last c) ∙ v.3 ∙ whole l.before)))

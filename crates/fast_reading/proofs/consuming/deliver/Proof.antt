@@ -101,7 +101,7 @@ abbrev version : tie.After-chunk_end-end → ℕ
 version c = c.before.before.before.before.before.args.version
 
 abbrev start : tie.After-chunk_end-end → ℕ
-start c = c.before.before.before.chunk-place.result
+start c = c.before.before.before.chunk_place-at.result
 
 placed : (c : tie.After-chunk_end-end) → start c ≡ chunk_at (version c)
 placed c = c.before.before.before.chunk_place-at.ensures

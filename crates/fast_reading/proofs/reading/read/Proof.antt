@@ -25,14 +25,14 @@ read_spec =
     (λ c κs. search rules)
     (λ c.
     let a = c.before.before.before.before.args in
-    by_eight a.s.now a.slots.now c.deliver.new.1.1.0 a.key a.version c.deliver.result c.before.before.if-key-eq8.true c.deliver.ensures)
+    by_eight a.s.now a.slots.now c.deliver.new.slots a.key a.version c.deliver.result c.before.before.if-key-eq8.true c.deliver.ensures)
     (λ c. search rules)
     (λ c κs. search rules)
     (λ c.
     let o = c.before in
     let a = o.before.before.before.before.before.args in
-    by_one a.s.now a.slots.now o.others.new.1.1.0 a.key a.version o.others.result true o.before.before.if-version-ne1.false c.if-others.true o.others.ensures)
+    by_one a.s.now a.slots.now o.others.new.slots a.key a.version o.others.result true o.before.before.if-version-ne1.false c.if-others.true o.others.ensures)
     (λ c.
     let o = c.before in
     let a = o.before.before.before.before.before.args in
-    by_one a.s.now a.slots.now o.others.new.1.1.0 a.key a.version o.others.result false o.before.before.if-version-ne1.false c.if-others.false o.others.ensures))
+    by_one a.s.now a.slots.now o.others.new.slots a.key a.version o.others.result false o.before.before.if-version-ne1.false c.if-others.false o.others.ensures))

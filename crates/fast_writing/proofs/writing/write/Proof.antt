@@ -25,7 +25,7 @@ write_spec =
     let version = arm.before.before in
     let start = version.before.before.before.before in
     let a = start.before.args in
-    same_writing _ _ a.out.now row.declare_publisher.new.1.1.1.0 row.declare_publisher.result (declare_flat a.slots.now a.src.now a.limit a.out.now version.if-slots-ne1.false arm.in-1.is) row.declare_publisher.ensures)
+    same_writing _ _ a.out.now row.declare_publisher.new.out row.declare_publisher.result (declare_flat a.slots.now a.src.now a.limit a.out.now version.if-slots-ne1.false arm.in-1.is) row.declare_publisher.ensures)
     (λ c. search rules)
     (λ c.
     let row = c.before.before in
@@ -33,7 +33,7 @@ write_spec =
     let version = arm.before.before in
     let start = version.before.before.before.before in
     let a = start.before.args in
-    same_writing _ _ a.out.now row.publish.new.1.1.1.0 row.publish.result (publish_flat a.slots.now a.src.now a.limit a.out.now version.if-slots-ne1.false arm.in-2.is) row.publish.ensures)
+    same_writing _ _ a.out.now row.publish.new.out row.publish.result (publish_flat a.slots.now a.src.now a.limit a.out.now version.if-slots-ne1.false arm.in-2.is) row.publish.ensures)
     (λ c. search rules)
     (λ c.
     let row = c.before.before in
@@ -41,7 +41,7 @@ write_spec =
     let version = arm.before.before in
     let start = version.before.before.before.before in
     let a = start.before.args in
-    same_writing _ _ a.out.now row.publish_confirm.new.1.1.1.0 row.publish_confirm.result (confirm_flat a.slots.now a.src.now a.limit a.out.now version.if-slots-ne1.false arm.in-3.is) row.publish_confirm.ensures)
+    same_writing _ _ a.out.now row.publish_confirm.new.out row.publish_confirm.result (confirm_flat a.slots.now a.src.now a.limit a.out.now version.if-slots-ne1.false arm.in-3.is) row.publish_confirm.ensures)
     (λ c. search rules)
     (λ c.
     let row = c.before.before in
@@ -49,7 +49,7 @@ write_spec =
     let version = arm.before.before in
     let start = version.before.before.before.before in
     let a = start.before.args in
-    same_writing _ _ a.out.now row.subscribe.new.1.1.1.0 row.subscribe.result (subscribe_flat a.slots.now a.src.now a.limit a.out.now version.if-slots-ne1.false arm.in-7.is) row.subscribe.ensures)
+    same_writing _ _ a.out.now row.subscribe.new.out row.subscribe.result (subscribe_flat a.slots.now a.src.now a.limit a.out.now version.if-slots-ne1.false arm.in-7.is) row.subscribe.ensures)
     (λ c. search rules)
     (λ c.
     let row = c.before.before in
@@ -57,7 +57,7 @@ write_spec =
     let version = arm.before.before in
     let start = version.before.before.before.before in
     let a = start.before.args in
-    same_writing _ _ a.out.now row.deliver.new.1.1.1.0 row.deliver.result (deliver_flat a.slots.now a.src.now a.limit a.out.now version.if-slots-ne1.false arm.in-8.is) row.deliver.ensures)
+    same_writing _ _ a.out.now row.deliver.new.out row.deliver.result (deliver_flat a.slots.now a.src.now a.limit a.out.now version.if-slots-ne1.false arm.in-8.is) row.deliver.ensures)
     (λ c. search rules)
     (λ c.
     let row = c.before.before in
@@ -65,7 +65,7 @@ write_spec =
     let version = arm.before.before in
     let start = version.before.before.before.before in
     let a = start.before.args in
-    same_writing _ _ a.out.now row.credit.new.1.1.0 row.credit.result (credit_flat a.slots.now a.src.now a.limit a.out.now version.if-slots-ne1.false arm.in-9.is) row.credit.ensures)
+    same_writing _ _ a.out.now row.credit.new.out row.credit.result (credit_flat a.slots.now a.src.now a.limit a.out.now version.if-slots-ne1.false arm.in-9.is) row.credit.ensures)
     (λ c. search rules)
     (λ c.
     let row = c.before.before in
@@ -73,5 +73,5 @@ write_spec =
     let version = arm.before.before in
     let start = version.before.before.before.before in
     let a = start.before.args in
-    same_writing _ _ a.out.now row.heartbeat.new.1.0 row.heartbeat.result (heartbeat_flat a.slots.now a.src.now a.limit a.out.now version.if-slots-ne1.false arm.in-23.is) row.heartbeat.ensures)
+    same_writing _ _ a.out.now row.heartbeat.new.out row.heartbeat.result (heartbeat_flat a.slots.now a.src.now a.limit a.out.now version.if-slots-ne1.false arm.in-23.is) row.heartbeat.ensures)
     (λ c. search rules))

@@ -17,7 +17,7 @@ krevilosh_credit_receive_spec =
     (λ c κs. search rules)
     (λ c. search rules)
     (λ c κs.
-    let told = c. in
+    let told = c in
     let receive = told.before in
     let known = receive.before.before.before in
     let a = known.before.args in
@@ -29,6 +29,6 @@ krevilosh_credit_receive_spec =
     let receive = told.before in
     (c.number_of.ensures ∙ ap refusal_answer (sym (ap received_refusal told.in-Reading.is) ∙ receive.receive.ensures.1.1.1), (receive.receive.ensures.1.0, receive.receive.ensures.1.1.0)))
     (λ c.
-    let told = c. in
+    let told = c in
     let receive = told.before in
     (ap refusal_answer (sym (ap received_refusal told.in-Refused.is) ∙ receive.receive.ensures.1.1.1), (receive.receive.ensures.1.0, receive.receive.ensures.1.1.0))))

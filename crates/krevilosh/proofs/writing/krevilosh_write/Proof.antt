@@ -23,5 +23,5 @@ krevilosh_write_spec =
     length_told _ _ _ told.before.before.before.write.ensures _ _ told.in-Length.is c.packed.ensures)
     (λ c. search rules)
     (λ c.
-    let told = c. in
+    let told = c in
     refusal_told _ _ _ told.before.before.before.write.ensures _ told.in-Refused.is))

@@ -28,10 +28,10 @@ abbrev start : tie.At-loop-p invariant_loop decreases_loop → tie.Start invaria
 start c = c.before.before.before
 
 -- The step, and all steps so far.
-stepped : (c : tie.After-step-p invariant_loop decreases_loop) → Lists (start (at c)).args.window.now (start (at c)).args.ended (at c).loop-p.p (at c).loop-p.out c.step-p.new.1.1.1.0 c.step-p.result
+stepped : (c : tie.After-step-p invariant_loop decreases_loop) → Lists (start (at c)).args.window.now (start (at c)).args.ended (at c).loop-p.p (at c).loop-p.out c.step-p.new.out c.step-p.result
 stepped c = step_lists _ _ _ (at c).loop-p.invariant.0.within _ _ _ _ refl c.step-p.ensures c.before.before.loop-p-test.true
 
-listed : (c : tie.After-step-p invariant_loop decreases_loop) → Lists (start (at c)).args.window.now (start (at c)).args.ended (begun (start (at c)).args.offset (start (at c)).args.frames) (start (at c)).args.out.now c.step-p.new.1.1.1.0 c.step-p.result
+listed : (c : tie.After-step-p invariant_loop decreases_loop) → Lists (start (at c)).args.window.now (start (at c)).args.ended (begun (start (at c)).args.offset (start (at c)).args.frames) (start (at c)).args.out.now c.step-p.new.out c.step-p.result
 listed c = lists_more _ _ _ _ _ _ _ _ (at c).loop-p.invariant.0 (at c).loop-p.invariant.1 (stepped c)
 
 -- A state that is not matched is another one.

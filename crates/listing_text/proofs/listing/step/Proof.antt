@@ -19,7 +19,7 @@ start c = c.before.before.before.before.before
 next : (c : tie.After-next_frame) (x : Next) → c.next_frame.result ≡ x → Tells x (following (drop (start c).args.p.from (start c).args.window.now) (start c).args.ended limit)
 next c x e = next_is (start c).args.window.now (start c).args.p.from _ _ c.next_frame.ensures.0 x e
 
-frame : (c : tie.In-Frame-2) → FrameAt (start c.before).args.window.now (start c.before).args.p.from (start c.before).args.ended c.in-Frame.length c.before.next_frame.new.1.1.1.0
+frame : (c : tie.In-Frame-2) → FrameAt (start c.before).args.window.now (start c.before).args.p.from (start c.before).args.ended c.in-Frame.length c.before.next_frame.new.slots
 unfolding Bytes
 frame c =
     let next = c.before in

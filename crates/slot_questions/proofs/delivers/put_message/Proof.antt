@@ -30,7 +30,7 @@ put_message_spec =
     let answer = sym (ap place_answer known.in-Place.is) ∙ message.message_place.ensures 7 ∙ ap (λ (n : ℕ). message_of a.source.now (signed 8 a.kind) n (place a.at a.length) a.index) count.asked_entries.ensures in
     (ap (λ (x : Asked Place). number_of (flat_message x)) answer, c.place_slots.ensures ∙ ap (λ (x : Asked Place). asked_slots a.slots.now (flat_message x)) answer))
     (λ c.
-    let known = c. in
+    let known = c in
     let message = known.before in
     let count = message.before in
     let start = count.before.before in

@@ -37,16 +37,16 @@ read_field_spec =
     let a = c.before.before.before.before.before.before.before.before.args in
     of_kind _ _ _ _ _ _ _ _ _ c.before.before.before.before.before.in-Number.is (rw c.before.before.before.before.largest.ensures at e.0, rw c.before.before.before.before.largest.ensures at (e.1 a.base)))
     (λ c. search rules)
-    (λ c. let e = c.before.before.read_unsigned-in-Active.ensures in of_kind _ _ _ _ _ _ _ _ _ c.before.before.before.before.in-Active.is (e.0, e.1 _))
+    (λ c. let e = c.before.before.read_unsigned-in-Active.ensures in of_kind _ _ _ _ _ _ _ _ _ c.before.before.before.before.in-Active.is (e.0, e.1 c.before.before.before.before.before.before.before.args.base))
     (λ c. search rules)
     (λ c.
     let e = c.before.before.read_unsigned-in-Signed.ensures in
     let k = c.before.before.before.before.before.before in
-    of_kind _ _ _ _ _ _ _ _ _ c.before.before.before.before.in-Signed.is (signed_read _ _ _ _ _ _ _ (λ i. omega (arith, k.shared_slice_known-1.given i)) e.0 (e.1 _)))
+    of_kind _ _ _ _ _ _ _ _ _ c.before.before.before.before.in-Signed.is (signed_read _ _ _ _ _ _ _ (λ i. omega (arith, k.shared_slice_known-1.given i)) e.0 (e.1 k.before.args.base)))
     (λ c. search rules)
     (λ c. of_kind _ _ _ _ _ _ _ _ _ c.before.before.before.before.in-String.is c.before.before.read_string.ensures)
     (λ c. search rules)
-    (λ c. let e = c.before.before.read_specification.ensures in of_kind _ _ _ _ _ _ _ _ _ c.before.before.before.before.in-Specification.is (e.0, e.1 _))
+    (λ c. let e = c.before.before.read_specification.ensures in of_kind _ _ _ _ _ _ _ _ _ c.before.before.before.before.in-Specification.is (e.0, e.1 c.before.before.before.before.before.before.before.args.base))
     (λ c. search rules)
     (λ c. of_kind _ _ _ _ _ _ _ _ _ c.before.before.before.before.in-List.is c.before.before.read_list.ensures)
     (λ c. search rules)

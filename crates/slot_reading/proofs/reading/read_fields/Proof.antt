@@ -62,13 +62,13 @@ read_fields_spec =
       search rules,
       omega (arith, v.1, c.slots_of-slot.ensures.1),
       v.2,
-      ap length p ∙ kind_length a.base (kind_of (get_or a.t4 l.loop-i.i 0)) a.s.now l.loop-i.at l.loop-i.slots l.loop-i.slot ∙ v.3,
+      ap length p ∙ kind_length a.base (kind_of (get_or a.fields l.loop-i.i 0)) a.s.now l.loop-i.at l.loop-i.slots l.loop-i.slot ∙ v.3,
       row_turns kind_of _ _ _ _ _ m f z ∙ v.4,
-      λ new g. v.5 new (fills_next a.base a.t4 a.s.now l.loop-i.i l.loop-i.at l.loop-i.slots l.loop-i.slot _ _ _ z m f p n new g),
+      λ new g. v.5 new (fills_next a.base a.fields a.s.now l.loop-i.i l.loop-i.at l.loop-i.slots l.loop-i.slot _ _ _ z m f p n new g),
     ))
     (λ c κs. search rules)
     (λ c. c.before.before.loop-i.invariant.3)
     (λ c.
     let l = c.before.before in
     let a = l.before.before.before.args in
-    (c.after.ensures ∙ row_ended kind_of _ _ _ _ (last c.before) ∙ l.loop-i.invariant.4, l.loop-i.invariant.5 _ (filled_all a.base a.t4 a.s.now l.loop-i.i l.loop-i.at l.loop-i.slots l.loop-i.slot (last c.before)))))
+    (c.after.ensures ∙ row_ended kind_of _ _ _ _ (last c.before) ∙ l.loop-i.invariant.4, l.loop-i.invariant.5 _ (filled_all a.base a.fields a.s.now l.loop-i.i l.loop-i.at l.loop-i.slots l.loop-i.slot (last c.before)))))

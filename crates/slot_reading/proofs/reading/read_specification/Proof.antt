@@ -12,7 +12,7 @@ use borrow.Author.Rules.{rules}
 use Rattle.slot_reading.proofs.reading.read_specification.Statement.{statement}
 use Rattle.slot_reading.proofs.reading.read_specification.Tie as tie
 
-ended : (c : tie.After-specification_end-end) → let a = c.before.before.before.args in c.specification_end-end.result ≡ stop (read_field (specification a.admits-none) a.s.now a.at)
+ended : (c : tie.After-specification_end-end) → let a = c.before.before.before.args in c.specification_end-end.result ≡ stop (read_field (specification a.admits_none) a.s.now a.at)
 unfolding read_field
 ended c = c.specification_end-end.ensures
 
@@ -24,7 +24,7 @@ there : (c : tie.Else-end-ne0) → let a = c.before.before.before.before.before.
 there c =
     let e = c.before.before in
     let a = e.before.before.before.args in
-    (found (specification a.admits-none) a.s.now a.at _ (ended e) (Typed a.s.now a.at 0) c.if-end-ne0.false (typed a.s.now a.at 0 a.admits-none (bytes e))).2.there
+    (found (specification a.admits_none) a.s.now a.at _ (ended e) (Typed a.s.now a.at 0) c.if-end-ne0.false (typed a.s.now a.at 0 a.admits_none (bytes e))).2.there
 
 pub read_specification_spec : {M : Type 1} → statement M
 read_specification_spec =
@@ -42,7 +42,7 @@ read_specification_spec =
     let n = t.before.before in
     let e = n.before.before.before in
     let a = e.before.before.before.args in
-    (ended e, λ base. slots_put _ _ _ _ (ended e) base _ _ _ _ n.before.if-end-ne0.false c.before.before.put_slots.ensures (offset_alone _ _ base a.admits-none (bytes e) _ _ n.number_or_zero-kind.ensures t.if-end-first.true)))
+    (ended e, λ base. slots_put _ _ _ _ (ended e) base _ _ _ _ n.before.if-end-ne0.false c.before.before.put_slots.ensures (offset_alone _ _ base a.admits_none (bytes e) _ _ n.number_or_zero-kind.ensures t.if-end-first.true)))
     (λ c κs. search rules)
     (λ c. search rules)
     (λ c κs. search rules)
@@ -52,4 +52,4 @@ read_specification_spec =
     let n = v.before.before.before in
     let e = n.before.before.before in
     let a = e.before.before.before.args in
-    (ended e, λ base. slots_put _ _ _ _ (ended e) base _ _ _ _ n.before.if-end-ne0.false c.before.before.put_slots-2.ensures (offset_more _ _ base a.admits-none (bytes e) _ _ n.number_or_zero-kind.ensures _ v.before.if-end-first.false v.number_or_zero.ensures))))
+    (ended e, λ base. slots_put _ _ _ _ (ended e) base _ _ _ _ n.before.if-end-ne0.false c.before.before.put_slots-2.ensures (offset_more _ _ base a.admits_none (bytes e) _ _ n.number_or_zero-kind.ensures _ v.before.if-end-first.false v.number_or_zero.ensures))))

@@ -10,6 +10,6 @@ unfolding narrow_fits
 fits_signed_spec =
     tie.close
     (tie.spec
-    (λ c. rw (lt-ltb c.before.args.x 0x8000_0000_0000_0000 c.if1.true))
+    (λ c. rw (lt-ltb c.before.args.x 0x8000_0000_0000_0000 c.if-x-lt9223372036854775808.true))
     (λ c. search rules)
-    (λ c. rw (le-ltb c.before.args.x 0x8000_0000_0000_0000 c.if1.false)))
+    (λ c. rw (le-ltb c.before.args.x 0x8000_0000_0000_0000 c.if-x-lt9223372036854775808.false)))

@@ -42,12 +42,12 @@ write_fields_spec =
       omega (arith, c.slots_of-at.ensures.1, l.invariant.1),
       c.before.before.out-1.given ∙ l.invariant.2,
       long,
-      sym (writes_next a.t5 a.src.now a.slots.now l.i l.at _ _ _ (omega arith) (rw kind at c.slots_of-at.ensures.0) (rw kind at field.write_field-behind.ensures)) ∙ l.invariant.4,
+      sym (writes_next a.fields a.src.now a.slots.now l.i l.at _ _ _ (omega arith) (rw kind at c.slots_of-at.ensures.0) (rw kind at field.write_field-behind.ensures)) ∙ l.invariant.4,
     ))
     (λ c. c.before.loop-i.invariant.2)
     (λ c.
     let l = c.before.loop-i in
     let a = c.before.before.before.before.before.args in
     let long = l.invariant.3 in
-    let last : l.i ≡ length a.t5 = omega arith in
-    sym (written a.t5 a.src.now a.slots.now l.i l.at _ last) ∙ l.invariant.4))
+    let last : l.i ≡ length a.fields = omega arith in
+    sym (written a.fields a.src.now a.slots.now l.i l.at _ last) ∙ l.invariant.4))

@@ -1,0 +1,34 @@
+// Reading frames.
+ghost use Rattle.std.specs.Prelude.{◌≡◌};
+ghost use Rattle.rules.specs.Answers.{reading_refusal};
+ghost use Rattle.rules.specs.Reading.{read_frame};
+ghost use Rattle.credit_ledger.specs.Calls.{received};
+ghost use Rattle.credit_ledger.specs.Numbers.{credit_refusal};
+ghost use Rattle.credit_ledger.specs.Step.{answer, after};
+ghost use Rattle.credit_receiving.specs.Answer.{slots_after};
+ghost use Rattle.slots.specs.Flat as flat;
+ghost use Rattle.krevilosh.specs.Answer.{refusal_answer};
+
+// The frame at the start of the bytes, under a frame limit, into the frame's slots.
+#[unsafe(no_mangle)]
+pub extern "C" fn krevilosh_read(bytes: &[u8], limit: u32, frame: &mut [u64; 24]) -> u64
+    ensures value { result ≡ refusal_answer (reading_refusal (read_frame bytes.now limit)) }
+    ensures frame_after { frame.new ≡ flat.slots_after frame.old (read_frame bytes.now limit) }
+{
+    krevilosh::krevilosh_read(bytes, limit, frame)
+}
+
+// Reads a frame, and takes one credit from its subscription if it is a Deliver.
+#[unsafe(no_mangle)]
+pub extern "C" fn krevilosh_credit_receive(
+    credits: &mut [u32; 257],
+    bytes: &[u8],
+    limit: u32,
+    frame: &mut [u64; 24],
+) -> u64
+    ensures value { result ≡ refusal_answer (credit_refusal (answer credits.old (received bytes.now limit))) }
+    ensures credits_after { credits.new ≡ after credits.old (received bytes.now limit) }
+    ensures frame_after { frame.new ≡ slots_after frame.old (answer credits.old (received bytes.now limit)) }
+{
+    krevilosh::krevilosh_credit_receive(credits, bytes, limit, frame)
+}

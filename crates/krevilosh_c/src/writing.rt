@@ -1,0 +1,18 @@
+// Writing frames.
+ghost use Rattle.std.specs.Prelude.{◌≡◌};
+ghost use Rattle.slots.specs.Unflat.{write_flat};
+ghost use Rattle.krevilosh.specs.Answer.{written_answer};
+
+// The flat frame, whose places are in the source, to the start of out, under a frame limit.
+#[unsafe(no_mangle)]
+pub extern "C" fn krevilosh_write(
+    frame: &[u64; 24],
+    source: &[u8],
+    limit: u32,
+    out: &mut [u8],
+) -> u64
+    ensures value { result ≡ written_answer (write_flat frame.now source.now limit out.old).answer }
+    ensures out_after { out.new ≡ (write_flat frame.now source.now limit out.old).out }
+{
+    krevilosh::krevilosh_write(frame, source, limit, out)
+}
