@@ -1,6 +1,5 @@
 -- Lemmas that belong to no one function.
 pub mod Spots
 pub mod Runs
-pub mod Held
 pub mod Delivers
 pub mod AskedMessages

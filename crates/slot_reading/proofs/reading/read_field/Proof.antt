@@ -42,7 +42,7 @@ read_field_spec =
     (λ c.
     let e = c.before.before.read_unsigned-in-Signed.ensures in
     let k = c.before.before.before.before.before.before in
-    of_kind _ _ _ _ _ _ _ _ _ c.before.before.before.before.in-Signed.is (signed_read _ _ _ _ _ _ _ (λ i. omega (arith, k.shared_slice_known-1.given i)) e.0 (e.1 k.before.args.base)))
+    of_kind _ _ _ _ _ _ _ _ _ c.before.before.before.before.in-Signed.is (signed_read _ _ k.before.args.base _ _ _ _ (λ i. omega (arith, k.shared_slice_known-1.given i)) e.0 (e.1 k.before.args.base)))
     (λ c. search rules)
     (λ c. of_kind _ _ _ _ _ _ _ _ _ c.before.before.before.before.in-String.is c.before.before.read_string.ensures)
     (λ c. search rules)
