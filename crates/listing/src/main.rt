@@ -1,13 +1,16 @@
 // Lists the frames of a capture on standard input (01 "The listing program").
 #![tactic(auto)]
 
-use libc::STDERR_FILENO;
 use listing_loop::Stage;
 
-fn main() {
+const STANDARD_ERROR: i32 = 2;
+
+fn main(rt: HostRuntime) {
     let mut window = [0u8; 262144];
     let mut text = [0u8; 65536];
-    let end = listing_loop::run(&mut window, &mut text);
+    let mut input = rt.stdin();
+    let mut output = rt.stdout();
+    let end = listing_loop::run(&mut input, &mut output, &mut window, &mut text);
     let stage = end.stage;
     say_why(stage);
 }
@@ -26,5 +29,5 @@ fn say_why(stage: Stage) {
 }
 
 fn say(message: &[u8]) {
-    io::write_all(STDERR_FILENO, message);
+    io::write_all(STANDARD_ERROR, message);
 }

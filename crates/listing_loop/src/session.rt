@@ -1,5 +1,5 @@
 // The capture listed, a read at a time (01 "The listing program").
-ghost use Rattle.std.specs.Prelude.{false, List, ◌≡◌, ℕ, ◌+◌, ◌≤◌, ◌<◌, length, take, drop};
+ghost use Rattle.std.specs.Prelude.{false, List, ◌≡◌, ℕ, ◌+◌, ◌≤◌, ◌<◌, ◌≤ℤ◌, pos, length, take, drop};
 ghost use Rattle.listing_loop.specs.History.{History, nothing_yet, after_read, after_write};
 ghost use Rattle.listing_loop.specs.Run.{Ran};
 ghost use Rattle.listing_loop.specs.Stages.{is_listing, is_over, stage_listed, stage_read, stage_written};
@@ -7,8 +7,8 @@ ghost use Rattle.listing_loop.specs.Standing.{Stands};
 ghost use Rattle.listing_loop.specs.declared.session.Stage.TheVariants.{Listing, Reading};
 
 use input_window::Input;
-use libc::{STDIN_FILENO, STDOUT_FILENO};
 use listing_text::{LONGEST, State, list};
+use std::io::{Read, Write};
 
 // What a listing does next, or why it is over.
 #[derive(Clone, Copy)]
@@ -41,19 +41,29 @@ pub struct Session {
     pub stage: Stage,
 }
 
-// Lists standard input on standard output, up to the first refusal or the input's end. The window holds four of the longest
+// Lists what the reader gives to the writer, up to the first refusal or the input's end. The window holds four of the longest
 // frames. The arrays have the sizes that `turns` requires, so that no caller has to see to it.
-pub fn run(window: &mut [u8; 262144], text: &mut [u8; 65536]) -> Session
+pub fn run<R: Read, W: Write>(
+    reader: &mut R,
+    writer: &mut W,
+    window: &mut [u8; 262144],
+    text: &mut [u8; 65536],
+) -> Session
     ensures { Ran result window.new text.new }
 {
-    turns(window, text)
+    turns(reader, writer, window, text)
 }
 
 // A turn lists what is there, and then makes one read, or one write. A single read keeps the writer of a pipe busy, which a
 // window that is filled first does not. The text is written once it has no room for another line, or the listing is over.
 // A proved loop has to end, and nothing says that an input does. So the turns made are counted, up to a number that no run
 // gets to.
-fn turns(window: &mut [u8], text: &mut [u8]) -> Session
+fn turns<R: Read, W: Write>(
+    reader: &mut R,
+    writer: &mut W,
+    window: &mut [u8],
+    text: &mut [u8],
+) -> Session
     requires in_bounds { 65536 ≤ length window.old }
     requires in_bounds_2 { 128 ≤ length text.old }
     ensures { Ran result window.new text.new }
@@ -67,12 +77,12 @@ fn turns(window: &mut [u8], text: &mut [u8]) -> Session
             at = make_room(window, at);
             let input = at.input;
             let held = input.held;
-            let got = libc::read(STDIN_FILENO, &mut window[held..]);
+            let got = one_read(reader, &mut window[held..]);
             at = received(window, at, got);
         }
         if !is_listing(at) {
             let lines = waiting(text, at);
-            let taken = io::write_all(STDOUT_FILENO, lines);
+            let taken = writer.write_all(lines).is_ok();
             at = wrote(lines, at, taken);
             if !is_listing(at) {
                 return at;
@@ -81,6 +91,16 @@ fn turns(window: &mut [u8], text: &mut [u8]) -> Session
         made += 1;
     }
     at
+}
+
+// One read, by how many bytes it put at the start of the part, or by a negative number if it failed.
+fn one_read<R: Read>(reader: &mut R, part: &mut [u8]) -> isize
+    ensures { result ≤ℤ pos (length part.new) }
+{
+    match reader.read(part) {
+        Ok(n) => n as isize,
+        Err(_) => -1,
+    }
 }
 
 // Nothing is read yet.

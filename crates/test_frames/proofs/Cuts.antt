@@ -1,33 +1,20 @@
--- What the code is told of a reading is what is counted of it, and one cut more adds its own. Assumes nothing.
+-- A frame that was read is there, and one cut more adds its own. Assumes nothing.
 use Prim.Native.Nat.{ℕ, ◌+◌, ◌≤◌}
 use mathlib.Core.Path.{◌≡◌, refl, sym, ap, ap₂, subst, ◌∙◌}
-use mathlib.Core.Bool.{cond}
 use mathlib.Core.List.{List}
 use native.Mathlib.Numerals.{add-one}
-use native.Mathlib.Omega.{arith}
-use lib.Dec.{eqb}
 use lib.ListN.{length, take}
 use Rattle.rules.proofs.Heads.{Head, head}
 use Rattle.rules.specs.Exactness.{frame_length}
 use Rattle.rules.specs.Reading.{read_frame}
 use Rattle.frame_reading.specs.Answer.{told}
-use Rattle.frame_reading.specs.declared.reading.FrameRead.TheVariants.{Frame, Short, Refused}
-use Rattle.frame_reading.proofs.Told.{frame_told, short_told, refusal_told}
+use Rattle.frame_reading.specs.declared.reading.FrameRead.TheVariants.{Frame}
+use Rattle.frame_reading.proofs.Told.{frame_told}
 use Rattle.test_frames.specs.Answers.{needs, cuts_needing}
 
 -- A frame that was read is there to its end.
 pub whole : (s : List ℕ) (limit : ℕ) → Frame ≡ told (read_frame s limit) → frame_length s ≤ length s
 whole s limit e = let f = frame_told (read_frame s limit) e in (subst (Head s) (sym f.1) (head s limit)).1
-
-module _ (n : ℕ) (s : List ℕ) (limit : ℕ) where
-  pub needs_none : Frame ≡ told (read_frame s limit) → 0 ≡ needs n (read_frame s limit)
-  needs_none e = ap (needs n) (frame_told (read_frame s limit) e).1
-
-  pub needs_short : (m : ℕ) → Short m ≡ told (read_frame s limit) → cond (eqb m n) 1 0 ≡ needs n (read_frame s limit)
-  needs_short m e = ap (needs n) (short_told (read_frame s limit) m e)
-
-  pub needs_nothing : (k p : ℕ) → Refused k p ≡ told (read_frame s limit) → 0 ≡ needs n (read_frame s limit)
-  needs_nothing k p e = ap (needs n) (refusal_told (read_frame s limit) k p e)
 
 module _ (limit : ℕ) (s : List ℕ) (n : ℕ) where
   pub no_cuts : 0 ≡ cuts_needing limit s n 0
@@ -37,6 +24,3 @@ module _ (limit : ℕ) (s : List ℕ) (n : ℕ) where
   pub one_cut : (k count more : ℕ) → count ≡ cuts_needing limit s n k → more ≡ needs n (read_frame (take k s) limit) → count + more ≡ cuts_needing limit s n (k + 1)
   unfolding cuts_needing
   one_cut k count more so it = ap₂ ◌+◌ so it ∙ ap (cuts_needing limit s n) (sym (add-one k))
-
-  pub all_cuts : (k end count : ℕ) → count ≡ cuts_needing limit s n k → k ≤ end → end ≤ k → count ≡ cuts_needing limit s n end
-  all_cuts k end count so low high = so ∙ ap (cuts_needing limit s n) (omega arith)

@@ -6,8 +6,10 @@
 mod answer;
 mod line;
 
+const STANDARD_INPUT: i32 = 0;
+
 fn main() {
     let mut space = [0u8; 131072];
-    let n = io::read_full(libc::STDIN_FILENO, &mut space);
+    let n = io::read_full(STANDARD_INPUT, &mut space);
     line::run(&space[..n]);
 }

@@ -1,30 +1,25 @@
 -- What follows the first space begins one after the place where the search finds it, and is nothing where it finds none.
 -- Assumes nothing.
-use Prim.Native.Nat.{ℕ, ◌+◌, ◌-◌, ◌≤◌, ◌<◌}
-use mathlib.Core.Path.{◌≡◌, refl, sym, ap, ◌∙◌}
-use mathlib.Core.Bool.{Bool, true, false, cond}
-use mathlib.Core.List.{List, [], ◌∷◌}
-use native.Mathlib.Nat.{zero-add, suc-add}
-use native.Mathlib.Omega.{arith}
-use lib.Dec.{eqb}
-use lib.ListN.{length, take, drop, length-drop, drop_of_length-le}
-use lib.Seq.{take_all, take-length, take-nil}
-use Rattle.bytes.specs.Bytes.{index_of, index_after, slice}
+use Rattle.std.specs.Prelude.{ℕ, suc, ◌+◌, ◌-◌, ◌≤◌, ◌<◌, Bool, true, false, cond, List, [], ◌∷◌, eqb, length, take, drop, slice_range}
+use Rattle.std.proofs.Common.{◌≡◌, refl, sym, ap, ◌∙◌, arith}
+use Rattle.std.proofs.Math.Nat.{zero-add, suc-add, sub-zero}
+use Rattle.std.proofs.Math.ListN.{length-drop, drop_of_length-le}
+use Rattle.std.proofs.Math.Seq.{take_all, take-length, take-nil}
+use Rattle.test_text.specs.Search.{index_of}
 use Rattle.test_ledgers.specs.Words.{after_space}
 
 after_index : (s : List ℕ) → after_space s ≡ drop (index_of 0x20 s + 1) s
-unfolding after_space index_of index_after
+unfolding after_space index_of
 after_index [] = refl
 after_index (b ∷ s) = by (eqb b 0x20) (after_index s)
   where
-    by : (t : Bool) → after_space s ≡ drop (index_of 0x20 s + 1) s → cond t s (after_space s) ≡ drop (index_after t (index_of 0x20 s) + 1) (b ∷ s)
+    by : (t : Bool) → after_space s ≡ drop (index_of 0x20 s + 1) s → cond t s (after_space s) ≡ drop (cond t 0 (suc (index_of 0x20 s)) + 1) (b ∷ s)
     by true rest = refl
     by false rest = rest ∙ ap (λ n. drop n (b ∷ s)) (sym (suc-add (index_of 0x20 s) 1))
 
-module _ (s : List ℕ) (i : ℕ) (found : i ≡ 0 + index_of 0x20 (slice 0 (length s) s)) where
+module _ (s : List ℕ) (i : ℕ) (found : i ≡ 0 + index_of 0x20 (slice_range s 0 (length s))) where
   after_found : drop (i + 1) s ≡ after_space s
-  unfolding slice
-  after_found = ap (λ n. drop (n + 1) s) (found ∙ zero-add (index_of 0x20 (take (length s) s)) ∙ ap (index_of 0x20) (take-length s)) ∙ sym (after_index s)
+  after_found = ap (λ n. drop (n + 1) s) (found ∙ zero-add _ ∙ ap (λ n. index_of 0x20 (take n s)) (sub-zero (length s)) ∙ ap (index_of 0x20) (take-length s)) ∙ sym (after_index s)
 
   pub a_space : i < length s → take (length s - (i + 1)) (drop (i + 1) s) ≡ after_space s
   a_space h = take_all (length s - (i + 1)) (drop (i + 1) s) (rw length-drop (omega arith)) ∙ after_found

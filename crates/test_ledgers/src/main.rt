@@ -11,8 +11,10 @@ mod answers;
 mod calls;
 mod script;
 
+const STANDARD_INPUT: i32 = 0;
+
 fn main() {
     let mut buffer = io::large_buffer();
-    let n = io::read_full(libc::STDIN_FILENO, &mut buffer);
+    let n = io::read_full(STANDARD_INPUT, &mut buffer);
     calls::replay(&buffer[..n]);
 }

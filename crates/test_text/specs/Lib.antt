@@ -1,2 +1,3 @@
--- The digits of the inputs.
+-- The digits of the inputs, and their places.
 pub mod Digits
+pub mod Search

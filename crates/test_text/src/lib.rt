@@ -3,6 +3,8 @@
 
 mod digits;
 mod output;
+mod search;
 
 pub use digits::{number, unhex};
 pub use output::{decimal, hex, line, word};
+pub use search::find;

@@ -2,12 +2,12 @@
 ghost use Rattle.std.specs.Prelude.{◌≡◌, min, max, length};
 ghost use Rattle.io.specs.Digits.{IsDigitCount};
 
-use libc::STDOUT_FILENO;
+const STANDARD_OUTPUT: i32 = 1;
 
 pub fn word(s: &[u8]) -> usize
     ensures { result ≡ length s.now }
 {
-    io::write_all(STDOUT_FILENO, s);
+    io::write_all(STANDARD_OUTPUT, s);
     s.len()
 }
 

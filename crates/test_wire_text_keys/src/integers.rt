@@ -1,6 +1,8 @@
 // Integers at the edges of their widths, read and written, unsigned and signed.
 use wire::{Number, Width};
 
+const STANDARD_OUTPUT: i32 = 1;
+
 const BYTES: [u8; 16] = [
     0x00, 0x00, 0x01, 0x7f, 0xff, 0xff, 0x80, 0x00, 0x80, 0xff, 0x7f, 0xff, 0xff, 0xff, 0xff, 0xfe,
 ];
@@ -83,7 +85,7 @@ fn shown(out: &[u8]) {
 }
 
 fn byte(b: u8) {
-    io::print_hex(libc::STDOUT_FILENO, b as u64, 2);
+    io::print_hex(STANDARD_OUTPUT, b as u64, 2);
 }
 
 // There and back through the signed types: the bits as they were, and whether the number is below 0.

@@ -1,0 +1,9 @@
+-- A frame that was read is there to its end.
+use Rattle.test_frames.proofs.Cuts.{whole}
+use Rattle.test_frames.proofs.answer.run.Goals as goal
+
+pub accepted-requires : goal.accepted-requires
+accepted-requires c = whole _ _ c.in-Frame.ensures.value
+
+pub cuts-requires : goal.cuts-requires
+cuts-requires c = whole _ _ c.in-Frame.ensures.value

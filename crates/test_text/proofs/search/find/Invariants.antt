@@ -1,0 +1,7 @@
+-- What is left from the place reached on decides.
+use Rattle.std.specs.Prelude.{◌≡◌, ◌+◌, ◌≤◌, slice_range}
+use Rattle.test_text.specs.Search.{index_of}
+use Rattle.test_text.proofs.search.find.Given as goal
+
+abbrev pub invariant-loop-at : goal.invariant-loop-at
+invariant-loop-at l = (l.from + index_of l.byte (slice_range l.text l.from l.to) ≡ l.at + index_of l.byte (slice_range l.text l.at l.to)) × (l.from ≤ l.at)
