@@ -7,10 +7,9 @@ ghost use Rattle.std.specs.Prelude.{◌≤◌, length, IfOk};
 
 mod trip;
 
-use std::fs;
-use std::io;
 use std::io::Read;
 use std::rt::Files;
+use std::{fs, io};
 
 fn main(rt: HostRuntime) -> io::Result<()> {
     capture(&rt, "01-handshake.client.bin")?;

@@ -1,6 +1,5 @@
 -- A byte that was found ends the count, one that was passed adds 1 to it, and none are left at the end.
-use Rattle.std.proofs.Common.{◌≡◌, ◌+◌, sym, ap, ◌∙◌, arith}
-use Rattle.test_text.specs.Search.{index_of}
+use Rattle.std.proofs.Common.{arith}
 use Rattle.test_text.proofs.Places.{found, passed, none_left}
 use Rattle.test_text.proofs.search.find.Goals as goal
 

@@ -1,5 +1,5 @@
 -- The text is the four bytes.
-use Rattle.std.proofs.Common.{◌≡◌, ◌∙◌, sym, ap}
+use Rattle.std.proofs.Common.{◌∙◌}
 use Rattle.std.proofs.Math.Nat.{sub-zero}
 use Rattle.test_wire_text_keys.specs.Texts.{passes}
 use Rattle.test_wire_text_keys.proofs.utf8.passes.Goals as goal

@@ -1,5 +1,5 @@
 -- A text that passes adds 1 and its number, any other one nothing.
-use Rattle.std.proofs.Common.{◌≡◌, ◌∙◌, sym, arith}
+use Rattle.std.proofs.Common.{◌∙◌, sym, arith}
 use Rattle.test_wire_text_keys.proofs.Sums.{sum_none}
 use Rattle.test_wire_text_keys.proofs.Tally.{passed, failed}
 use Rattle.test_wire_text_keys.proofs.utf8.tally.Goals as goal

@@ -1,0 +1,9 @@
+-- The loop goes from frame to frame, and no frame is longer than what is left. Each has a byte at least.
+use Rattle.std.proofs.Common.{length, ◌-◌, ◌≤◌}
+use Rattle.test_round_trips.proofs.trip.walk.Given as goal
+
+abbrev pub invariant-loop-at : goal.invariant-loop-at
+invariant-loop-at l = (l.at ≤ length l.s) × (l.frames ≤ l.at)
+
+abbrev pub decreases-loop-at : goal.decreases-loop-at
+decreases-loop-at l = length l.s - l.at
