@@ -7,7 +7,7 @@ use crate::answer;
 pub fn run(text: &[u8]) {
     let mut at = 0;
     while at < text.len() {
-        let end = test_text::find(text, at, text.len(), b'\n');
+        let end = test_text::find(text, at, b'\n');
         vector(&text[at..end]);
         at = end + 1;
     }
@@ -15,11 +15,11 @@ pub fn run(text: &[u8]) {
 
 // Name, limit and bytes, with a space between them.
 fn vector(line: &[u8]) {
-    let name_end = test_text::find(line, 0, line.len(), b' ');
+    let name_end = test_text::find(line, 0, b' ');
     if name_end == line.len() {
         return;
     }
-    let limit_end = test_text::find(line, name_end + 1, line.len(), b' ');
+    let limit_end = test_text::find(line, name_end + 1, b' ');
     if limit_end == line.len() {
         return;
     }

@@ -1,10 +1,10 @@
 -- What follows the first space begins one after the place where the search finds it, and is nothing where it finds none.
 -- Assumes nothing.
-use Rattle.std.specs.Prelude.{ℕ, suc, ◌+◌, ◌-◌, ◌≤◌, ◌<◌, Bool, true, false, cond, List, [], ◌∷◌, eqb, length, take, drop, slice_range}
+use Rattle.std.specs.Prelude.{ℕ, suc, ◌+◌, ◌-◌, ◌≤◌, ◌<◌, Bool, true, false, cond, List, [], ◌∷◌, eqb, length, take, drop}
 use Rattle.std.proofs.Common.{◌≡◌, refl, sym, ap, ◌∙◌, arith}
-use Rattle.std.proofs.Math.Nat.{zero-add, suc-add, sub-zero}
+use Rattle.std.proofs.Math.Nat.{zero-add, suc-add}
 use Rattle.std.proofs.Math.ListN.{length-drop, drop_of_length-le}
-use Rattle.std.proofs.Math.Seq.{take_all, take-length, take-nil}
+use Rattle.std.proofs.Math.Seq.{take_all, take-nil}
 use Rattle.test_text.specs.Search.{index_of}
 use Rattle.test_ledgers.specs.Words.{after_space}
 
@@ -17,9 +17,9 @@ after_index (b ∷ s) = by (eqb b 0x20) (after_index s)
     by true rest = refl
     by false rest = rest ∙ ap (λ n. drop n (b ∷ s)) (sym (suc-add (index_of 0x20 s) 1))
 
-module _ (s : List ℕ) (i : ℕ) (found : i ≡ 0 + index_of 0x20 (slice_range s 0 (length s))) where
+module _ (s : List ℕ) (i : ℕ) (found : i ≡ 0 + index_of 0x20 (drop 0 s)) where
   after_found : drop (i + 1) s ≡ after_space s
-  after_found = ap (λ n. drop (n + 1) s) (found ∙ zero-add _ ∙ ap (λ n. index_of 0x20 (take n s)) (sub-zero (length s)) ∙ ap (index_of 0x20) (take-length s)) ∙ sym (after_index s)
+  after_found = ap (λ n. drop (n + 1) s) (found ∙ zero-add _) ∙ sym (after_index s)
 
   pub a_space : i < length s → take (length s - (i + 1)) (drop (i + 1) s) ≡ after_space s
   a_space h = take_all (length s - (i + 1)) (drop (i + 1) s) (rw length-drop (omega arith)) ∙ after_found

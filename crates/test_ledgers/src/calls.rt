@@ -13,7 +13,7 @@ pub fn replay(text: &[u8]) {
     let mut publishers = publisher_ledger::empty();
     let mut at: usize = 0;
     while at < text.len() {
-        let end = test_text::find(text, at, text.len(), 0x0a);
+        let end = test_text::find(text, at, 0x0a);
         call(&text[at..end], &mut credits, &mut publishers);
         at = end + 1;
     }

@@ -51,7 +51,7 @@ fn word_of(letters: u64) -> Word
 pub fn after_space(text: &[u8]) -> &[u8]
     ensures { result.now ≡ after_space text.now }
 {
-    let at = test_text::find(text, 0, text.len(), 0x20);
+    let at = test_text::find(text, 0, 0x20);
     if at < text.len() {
         return &text[at + 1..];
     }

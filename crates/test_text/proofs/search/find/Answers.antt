@@ -5,21 +5,15 @@ use Rattle.test_text.proofs.search.find.Goals as goal
 
 pub returns-then-text-at-clause-value : goal.returns-then-text-at-clause-value
 returns-then-text-at-clause-value c =
-    let l = c.loop-at in
-    let f = found c.args.text.now l.at c.args.to c.args.byte c.loop-at-test.true c.requires.in_bounds c.if-text-at.true in
-    let i = l.invariant.0 in
-    omega (arith, f, i)
+    let f = found c.args.text.now c.loop-at.at c.args.byte c.loop-at-test.true c.if-text-at.true in
+    omega (arith, f, c.loop-at.invariant.same)
 
 pub loop-at-preserved : goal.loop-at-preserved
 loop-at-preserved c =
-    let l = c.loop-at in
-    let p = passed c.args.text.now l.at c.args.to c.args.byte c.loop-at-test.true c.requires.in_bounds c.if-text-at.false in
-    let i = l.invariant.0 in
-    (omega (arith, p, i), omega (arith, l.invariant.1))
+    let p = passed c.args.text.now c.loop-at.at c.args.byte c.loop-at-test.true c.if-text-at.false in
+    record { same = omega (arith, p, c.loop-at.invariant.same); further = omega arith; inside = λ _. omega arith }
 
 pub returns-clause-value : goal.returns-clause-value
 returns-clause-value c =
-    let l = c.loop-at in
-    let n = none_left c.args.text.now l.at c.args.to c.args.byte (omega (arith, c.loop-at-test.false)) in
-    let i = l.invariant.0 in
-    omega (arith, n, i, l.auto.at-end, c.loop-at-test.false)
+    let n = none_left c.args.text.now c.loop-at.at c.args.byte (omega arith) in
+    omega (arith, n, c.loop-at.invariant.same)
