@@ -18,8 +18,8 @@ pub struct Input {
 
 // Nothing is read yet.
 pub fn start() -> Input
-    ensures offset_value { result.offset ≡ 0 }
-    ensures by_index { (window : List ℕ) → Shows [] result window }
+    ensures offset { result.offset ≡ 0 }
+    ensures shows { (window : List ℕ) → Shows [] result window }
 {
     Input {
         from: 0,
@@ -42,7 +42,7 @@ pub fn rest(window: &[u8], at: Input) -> &[u8]
 // n bytes further. Where not so many are there, or the offset would pass 2^64 - 1, none are taken.
 pub fn taken(at: Input, n: usize) -> Input
     ensures value { result ≡ taken_from at n }
-    ensures by_index { (reads : List (List ℕ)) (window : List ℕ) → Shows reads at window → n ≤ length (drop at.offset (in_order reads)) → at.offset + n < 0x1_0000_0000_0000_0000 → Shows reads result window × (result.offset ≡ at.offset + n) }
+    ensures shows { (reads : List (List ℕ)) (window : List ℕ) → Shows reads at window → n ≤ length (drop at.offset (in_order reads)) → at.offset + n < 0x1_0000_0000_0000_0000 → Shows reads result window × (result.offset ≡ at.offset + n) }
 {
     let from = at.from;
     let held = at.held;
@@ -67,9 +67,9 @@ pub fn taken(at: Input, n: usize) -> Input
 // Where the window has less room than for `longest` bytes after those that it holds, these are moved to its front. So there is
 // room to read, if fewer than the longest are not taken yet and the window holds so many.
 pub fn make_room(window: &mut [u8], at: Input, longest: usize) -> Input
-    ensures by_index { (reads : List (List ℕ)) → Shows reads at window.old → Shows reads result window.new }
-    ensures offset_value { result.offset ≡ at.offset }
-    ensures by_index_2 { (reads : List (List ℕ)) → Shows reads at window.old → length (drop at.offset (in_order reads)) < longest → longest ≤ length window.old → result.held < length window.new }
+    ensures shows { (reads : List (List ℕ)) → Shows reads at window.old → Shows reads result window.new }
+    ensures offset { result.offset ≡ at.offset }
+    ensures room { (reads : List (List ℕ)) → Shows reads at window.old → length (drop at.offset (in_order reads)) < longest → longest ≤ length window.old → result.held < length window.new }
 {
     let at = inside(at, window.len());
     let from = at.from;
@@ -89,8 +89,8 @@ pub fn make_room(window: &mut [u8], at: Input, longest: usize) -> Input
 // After a read into the window from `held` on, by what it answered; a negative answer gave nothing. There has to be room: a
 // read into none gives nothing, which says nothing of the input's end.
 pub fn received(window: &[u8], at: Input, got: isize) -> Input
-    ensures by_index { (reads : List (List ℕ)) → Shows reads at window.now → at.held < length window.now → Shows (after_read got (drop at.held window.now) reads) result window.now }
-    ensures offset_value { result.offset ≡ at.offset }
+    ensures shows { (reads : List (List ℕ)) → Shows reads at window.now → at.held < length window.now → Shows (after_read got (drop at.held window.now) reads) result window.now }
+    ensures offset { result.offset ≡ at.offset }
 {
     if got < 0 {
         return at;
@@ -108,7 +108,7 @@ pub fn received(window: &[u8], at: Input, got: isize) -> Input
 
 // The places that a window of so many bytes has.
 fn inside(at: Input, len: usize) -> Input
-    ensures from_le_held { (result.from ≤ result.held) × (result.held ≤ len) × (result.offset ≡ at.offset) }
+    ensures inside { (result.from ≤ result.held) × (result.held ≤ len) × (result.offset ≡ at.offset) }
     ensures value { at.from ≤ at.held → at.held ≤ len → result ≡ at }
 {
     let from = at.from;

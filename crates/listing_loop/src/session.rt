@@ -64,8 +64,8 @@ fn turns<R: Read, W: Write>(
     window: &mut [u8],
     text: &mut [u8],
 ) -> Session
-    requires in_bounds { 65536 ≤ length window.old }
-    requires in_bounds_2 { 128 ≤ length text.old }
+    requires window_size { 65536 ≤ length window.old }
+    requires text_size { 128 ≤ length text.old }
     ensures { Ran result window.new text.new }
 {
     let mut made: u64 = 0;
@@ -105,8 +105,8 @@ fn one_read<R: Read>(reader: &mut R, part: &mut [u8]) -> isize
 
 // Nothing is read yet.
 fn started() -> Session
-    ensures stage_value { result.stage ≡ Listing }
-    ensures by_index { (window text : List ℕ) → Stands nothing_yet result window text }
+    ensures stage { result.stage ≡ Listing }
+    ensures stands { (window text : List ℕ) → Stands nothing_yet result window text }
 {
     let input = input_window::start();
     Session {
@@ -120,7 +120,7 @@ fn started() -> Session
 // Lists what the window holds, as far as the text has room for it.
 fn listed(window: &[u8], text: &mut [u8], at: Session) -> Session
     requires { at.waiting ≤ length text.old }
-    ensures stage_value { is_listing result.stage ≡ false }
+    ensures stage { is_listing result.stage ≡ false }
     ensures stands { (h : History) → at.stage ≡ Listing → Stands h at window.now text.old → Stands h result window.now text.new }
 {
     let input = at.input;
@@ -156,8 +156,8 @@ fn stage_listed(state: State) -> Stage
 // Where the longest frame has no room after what the window holds, what is not listed yet is moved to the front.
 fn make_room(window: &mut [u8], mut at: Session) -> Session
     ensures stands { (h : History) (text : List ℕ) → Stands h at window.old text → Stands h result window.new text }
-    ensures stage_value { result.stage ≡ at.stage }
-    ensures held_in_bounds { (h : History) (text : List ℕ) → at.stage ≡ Reading → Stands h at window.old text → 65536 ≤ length window.old → result.input.held < length window.new }
+    ensures stage { result.stage ≡ at.stage }
+    ensures room { (h : History) (text : List ℕ) → at.stage ≡ Reading → Stands h at window.old text → 65536 ≤ length window.old → result.input.held < length window.new }
 {
     let input = at.input;
     let input = input_window::make_room(window, input, LONGEST);
@@ -168,7 +168,7 @@ fn make_room(window: &mut [u8], mut at: Session) -> Session
 // After a read into the window from `held` on, by what it answered.
 fn received(window: &[u8], at: Session, got: isize) -> Session
     requires { at.input.held < length window.now }
-    ensures stage_value { result.stage ≡ stage_read got }
+    ensures stage { result.stage ≡ stage_read got }
     ensures stands { (h : History) (text : List ℕ) → at.stage ≡ Reading → Stands h at window.now text → Stands (after_read got (drop at.input.held window.now) h) result window.now text }
 {
     let input = at.input;
@@ -202,8 +202,8 @@ fn waiting(text: &[u8], at: Session) -> &[u8]
 
 // After a write of the lines that waited, which took them or failed. The lines are there for the contract alone.
 fn wrote(lines: &[u8], at: Session, taken: bool) -> Session
-    ensures waiting_value { result.waiting ≡ 0 }
-    ensures stage_value { result.stage ≡ stage_written taken at.stage }
+    ensures waiting { result.waiting ≡ 0 }
+    ensures stage { result.stage ≡ stage_written taken at.stage }
     ensures stands { (h : History) (window text : List ℕ) → lines.now ≡ take at.waiting text → Stands h at window text → Stands (after_write taken lines.now h) result window text }
 {
     let input = at.input;

@@ -20,10 +20,10 @@ joined g c =
       | in-Reading w ↦
           let room = w.make_room-at in
           let received = w.received-at in
-          let reading = room.ensures.stage_value ∙ w.in-Reading.is in
+          let reading = room.ensures.stage ∙ w.in-Reading.is in
           let long : length c.match-stage.window ≡ length room.new.window = c.match-stage.auto.window ∙ sym room.auto.window in
-          read_then _ _ _ _ _ _ _ _ _ _ (to_z w64 (of_z w64 w.one_read-got.result)) (room.ensures.stands _ _ (listed g c)) reading inv.3 refl (ap length (sym w.window-is) ∙ long) received.ensures.stage_value received.ensures.stands w.at-is w.window-is
-      | in_default w ↦ nothing_read _ _ _ _ _ _ inv.0 (listed g c) inv.3 c.listed-at.ensures.stage_value w.in_default.not-Reading w.at-is w.window-is
+          read_then _ _ _ _ _ _ _ _ _ _ (to_z w64 (of_z w64 w.one_read-got.result)) (room.ensures.stands _ _ (listed g c)) reading inv.3 refl (ap length (sym w.window-is) ∙ long) received.ensures.stage received.ensures.stands w.at-is w.window-is
+      | in_default w ↦ nothing_read _ _ _ _ _ _ inv.0 (listed g c) inv.3 c.listed-at.ensures.stage w.in_default.not-Reading w.at-is w.window-is
     ]
 
 pub waiting-lines-requires : goal.waiting-lines-requires
@@ -34,7 +34,7 @@ returns-then-not-is_listing-2 g c =
     let at = (goal.at.returns-then-not-is_listing-2 g c).After-is_listing in
     let due = sym c.is_listing.ensures ∙ c.if-not-is_listing.true in
     let over = sym c.is_listing-then-not-is_listing.ensures ∙ c.if-not-is_listing-2.true in
-    write_over _ _ _ _ _ _ c.is_ok-taken.result (joined g at) due c.waiting-lines.ensures c.wrote-at.ensures.stands c.wrote-at.ensures.waiting_value c.wrote-at.ensures.stage_value over
+    write_over _ _ _ _ _ _ c.is_ok-taken.result (joined g at) due c.waiting-lines.ensures c.wrote-at.ensures.stands c.wrote-at.ensures.waiting c.wrote-at.ensures.stage over
 
 pub returns : goal.returns
 returns g c = turns_over _ _ _ _ c.loop-made.invariant.0 c.loop-made-test.false
@@ -49,8 +49,8 @@ loop-made-preserved g c =
       | then-not-is_listing+else-not-is_listing-2 w ↦
           let due = sym c.is_listing.ensures ∙ w.if-not-is_listing.true in
           let on = sym w.is_listing-then-not-is_listing.ensures ∙ w.if-not-is_listing-2.false in
-          let roomy = c.requires.in_bounds_2 in
-          write_again _ _ _ _ _ _ w.is_ok-taken.result (joined g at) due w.waiting-lines.ensures w.wrote-at.ensures.stands _ (omega (arith, same, roomy)) w.wrote-at.ensures.stage_value on w.at-is
+          let roomy = c.requires.text_size in
+          write_again _ _ _ _ _ _ w.is_ok-taken.result (joined g at) due w.waiting-lines.ensures w.wrote-at.ensures.stands _ (omega (arith, same, roomy)) w.wrote-at.ensures.stage on w.at-is
       | else-not-is_listing w ↦ read_again _ _ _ _ _ (joined g at) (sym c.is_listing.ensures ∙ w.if-not-is_listing.false) w.at-is
     ] in
     (next, c.match-stage.auto.window ∙ inv.1, same, omega (arith, c.loop-made-test.true))
