@@ -14,7 +14,6 @@ use Rattle.wire.specs.Signed.{signed}
 use Rattle.wire.proofs.Widths.{or_zero_lem}
 use Rattle.protocol.specs.Fields.{place}
 use Rattle.protocol.specs.Fields as F
-use Rattle.protocol.specs.Kinds as K
 use Rattle.protocol.specs.Refusals.{field_cut, value_not_admitted, bytes_left}
 use Rattle.rules.specs.Outcome.{Outcome, got, refused, then, refuse_if, repeated}
 use Rattle.rules.specs.Reading.{header_at, is_chunk_type, has_entries, read_entry, read_entries, read_data, read_headed, read_chunk}

@@ -29,7 +29,7 @@ pub fn state(credits: &[u32; 257], id: u8) -> IdState
 
 // To be called when Subscribe is answered OK: 14 if the id is open.
 pub fn open(credits: &mut [u32; 257], id: u8, credit: u16) -> Change
-    ensures result_value { answer_of_change result ≡ answer credits.old (opening id credit) }
+    ensures answer { answer_of_change result ≡ answer credits.old (opening id credit) }
     ensures credits_after { credits.new ≡ after credits.old (opening id credit) }
 {
     ledger::start(credits, id, credit)
@@ -37,7 +37,7 @@ pub fn open(credits: &mut [u32; 257], id: u8, credit: u16) -> Change
 
 // 13 if the id is closed, 16 if its balance would pass 1,000,000.
 pub fn grant(credits: &mut [u32; 257], id: u8, more: u16) -> Change
-    ensures result_value { answer_of_change result ≡ answer credits.old (grant id more) }
+    ensures answer { answer_of_change result ≡ answer credits.old (grant id more) }
     ensures credits_after { credits.new ≡ after credits.old (grant id more) }
 {
     ledger::add(credits, id, more as u32)
@@ -45,7 +45,7 @@ pub fn grant(credits: &mut [u32; 257], id: u8, more: u16) -> Change
 
 // 13 if the id is closed.
 pub fn close(credits: &mut [u32; 257], id: u8) -> Change
-    ensures result_value { answer_of_change result ≡ answer credits.old (closing id) }
+    ensures answer { answer_of_change result ≡ answer credits.old (closing id) }
     ensures credits_after { credits.new ≡ after credits.old (closing id) }
 {
     ledger::stop(credits, id)

@@ -28,7 +28,7 @@ pub fn receive(
     ensures value { result ≡ answer_of (answer credits.old (received bytes.now limit)) }
     ensures credits_after { credits.new ≡ after credits.old (received bytes.now limit) }
     ensures slots_after { slots.new ≡ slots_after slots.old (answer credits.old (received bytes.now limit)) }
-    ensures result_value { received_refusal result ≡ credit_refusal (answer credits.old (received bytes.now limit)) }
+    ensures refusal { received_refusal result ≡ credit_refusal (answer credits.old (received bytes.now limit)) }
 {
     let subscription = subscription_of(bytes);
     if affords(credits, subscription) {

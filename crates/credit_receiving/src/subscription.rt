@@ -42,7 +42,7 @@ pub fn affords(credits: &[u32; 257], subscription: Subscription) -> bool
 
 // Takes the credit of a frame that was read.
 pub fn spend(credits: &mut [u32; 257], subscription: Subscription) -> Change
-    ensures result_value { number_of result ≡ refusal_for credits.old (id_of subscription) }
+    ensures refusal { number_of result ≡ refusal_for credits.old (id_of subscription) }
     ensures credits_after { credits.new ≡ spent credits.old (id_of subscription) }
 {
     match subscription {

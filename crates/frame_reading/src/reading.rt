@@ -27,7 +27,7 @@ pub enum FrameRead {
 pub fn read(bytes: &[u8], limit: u32, slots: &mut [u64; 24]) -> FrameRead
     ensures value { result ≡ told (read_frame bytes.now limit) }
     ensures slots_after { slots.new ≡ slots_after slots.old (read_frame bytes.now limit) }
-    ensures result_value { refusal_of result ≡ reading_refusal (read_frame bytes.now limit) }
+    ensures refusal { refusal_of result ≡ reading_refusal (read_frame bytes.now limit) }
 {
     if bytes.len() < 4 {
         return FrameRead::Short { needed: 4 };

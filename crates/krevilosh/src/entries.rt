@@ -18,7 +18,7 @@ pub fn krevilosh_chunk_open(chunk: &[u8], reader: &mut [u64; 4]) -> u64
 pub fn krevilosh_chunk_next(chunk: &[u8], reader: &mut [u64; 4], entry: &mut [u64; 8]) -> u64
     ensures value { result ≡ next_answer (next_found chunk.now reader.old) }
     ensures reader_after { reader.new ≡ reader_after chunk.now reader.old }
-    ensures after { entry.new ≡ entry_after chunk.now reader.old entry.old }
+    ensures entry_after { entry.new ≡ entry_after chunk.now reader.old entry.old }
 {
     let found = slot_chunk_reader::next_entry(chunk, reader, entry);
     number_of(found)

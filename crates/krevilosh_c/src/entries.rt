@@ -21,7 +21,7 @@ pub extern "C" fn krevilosh_chunk_next(
 ) -> u64
     ensures value { result ≡ next_answer (next_found chunk.now reader.old) }
     ensures reader_after { reader.new ≡ reader_after chunk.now reader.old }
-    ensures after { entry.new ≡ entry_after chunk.now reader.old entry.old }
+    ensures entry_after { entry.new ≡ entry_after chunk.now reader.old entry.old }
 {
     krevilosh::krevilosh_chunk_next(chunk, reader, entry)
 }

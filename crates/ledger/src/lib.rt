@@ -51,7 +51,7 @@ pub fn state(ledger: &[u32; 257], id: u8) -> IdState
 
 // Opens an id with a balance.
 pub fn start(ledger: &mut [u32; 257], id: u8, balance: u16) -> Change
-    ensures result_value { number_of result ≡ refusal (start balance) (entry_at ledger.old id) }
+    ensures refusal { number_of result ≡ refusal (start balance) (entry_at ledger.old id) }
     ensures ledger_after { ledger.new ≡ ledger_at ledger.old id (start balance) }
 {
     let at = id as usize;
@@ -66,7 +66,7 @@ pub fn start(ledger: &mut [u32; 257], id: u8, balance: u16) -> Change
 // Adds n to an open id's balance. The comparison comes before the sum, which a balance that the host made up would
 // overflow.
 pub fn add(ledger: &mut [u32; 257], id: u8, n: u32) -> Change
-    ensures result_value { number_of result ≡ refusal (add n) (entry_at ledger.old id) }
+    ensures refusal { number_of result ≡ refusal (add n) (entry_at ledger.old id) }
     ensures ledger_after { ledger.new ≡ ledger_at ledger.old id (add n) }
 {
     let at = id as usize;
@@ -86,7 +86,7 @@ pub fn add(ledger: &mut [u32; 257], id: u8, n: u32) -> Change
 
 // Takes n from an open id's balance; `short` is the refusal where the balance is smaller.
 pub fn take(ledger: &mut [u32; 257], id: u8, n: u32, short: u8) -> Change
-    ensures result_value { number_of result ≡ refusal (take n short) (entry_at ledger.old id) }
+    ensures refusal { number_of result ≡ refusal (take n short) (entry_at ledger.old id) }
     ensures ledger_after { ledger.new ≡ ledger_at ledger.old id (take n short) }
 {
     let at = id as usize;
@@ -103,7 +103,7 @@ pub fn take(ledger: &mut [u32; 257], id: u8, n: u32, short: u8) -> Change
 
 // Closes an id.
 pub fn stop(ledger: &mut [u32; 257], id: u8) -> Change
-    ensures result_value { number_of result ≡ refusal stop (entry_at ledger.old id) }
+    ensures refusal { number_of result ≡ refusal stop (entry_at ledger.old id) }
     ensures ledger_after { ledger.new ≡ ledger_at ledger.old id stop }
 {
     let at = id as usize;

@@ -18,7 +18,7 @@ pub fn put_number_and_word(out: &mut [u8], at: usize, n: u64, word: &[u8]) -> us
     put_word(out, at, word)
 }
 
-fn put_decimal(out: &mut [u8], at: usize, n: u64) -> usize
+pub fn put_decimal(out: &mut [u8], at: usize, n: u64) -> usize
     ensures { holds out.new result ≡ put out.old at (decimal n) }
 {
     let mut text = [0u8; 20];

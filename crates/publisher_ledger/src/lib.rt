@@ -33,7 +33,7 @@ pub fn state(publishers: &[u32; 257], id: u8) -> IdState
 
 // 14 if the id is open; else it has no message out.
 pub fn declare(publishers: &mut [u32; 257], id: u8) -> Change
-    ensures result_value { answer_of result ≡ answer publishers.old (declaration id) }
+    ensures answer { answer_of result ≡ answer publishers.old (declaration id) }
     ensures publishers_after { publishers.new ≡ after publishers.old (declaration id) }
 {
     ledger::start(publishers, id, 0)
@@ -41,7 +41,7 @@ pub fn declare(publishers: &mut [u32; 257], id: u8) -> Change
 
 // 13 if the id is closed.
 pub fn delete(publishers: &mut [u32; 257], id: u8) -> Change
-    ensures result_value { answer_of result ≡ answer publishers.old (deletion id) }
+    ensures answer { answer_of result ≡ answer publishers.old (deletion id) }
     ensures publishers_after { publishers.new ≡ after publishers.old (deletion id) }
 {
     ledger::stop(publishers, id)
@@ -49,7 +49,7 @@ pub fn delete(publishers: &mut [u32; 257], id: u8) -> Change
 
 // n messages sent: 13 if the id is closed, 16 if the messages out would pass 1,000,000.
 pub fn send(publishers: &mut [u32; 257], id: u8, n: u32) -> Change
-    ensures result_value { answer_of result ≡ answer publishers.old (sending id n) }
+    ensures answer { answer_of result ≡ answer publishers.old (sending id n) }
     ensures publishers_after { publishers.new ≡ after publishers.old (sending id n) }
 {
     ledger::add(publishers, id, n)
@@ -57,7 +57,7 @@ pub fn send(publishers: &mut [u32; 257], id: u8, n: u32) -> Change
 
 // n messages confirmed or in error: 13 if the id is closed, 17 if fewer are out.
 pub fn confirm(publishers: &mut [u32; 257], id: u8, n: u32) -> Change
-    ensures result_value { answer_of result ≡ answer publishers.old (confirming id n) }
+    ensures answer { answer_of result ≡ answer publishers.old (confirming id n) }
     ensures publishers_after { publishers.new ≡ after publishers.old (confirming id n) }
 {
     ledger::take(publishers, id, n, refusal::NOT_OUT)

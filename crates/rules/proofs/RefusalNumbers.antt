@@ -24,7 +24,6 @@ use Rattle.rules.specs.Answers.{reading_refusal, writing_refusal, IfRefused, Rea
 use Rattle.rules.specs.Outcome.{Outcome, got, refused, repeated}
 use Rattle.rules.specs.Reading.{is_chunk_type, has_entries, too_long, is_text, over_limit, read_entry, read_row, read_content, Reading, short, refusal, reading_of, read_layout, read_decided, read_sized, read_frame}
 use Rattle.rules.specs.Writing.{Encoding, wrote, refuse, checked, followed, fits_signed, write_string, write_offset, used_up, write_list, fits_header, write_chunk, place_of, write_field, write_row, Writing, unwritten, write_encoded, write_decided, write_frame}
-use Rattle.rules.specs.Writing as writing
 use Rattle.rules.proofs.Bounds.{FieldNumber, is_field_number, named, Bounded, bounded_repeated, bounded_entry, bounded_row, bounded_content}
 use Rattle.rules.proofs.Gives.{choice}
 

@@ -1,6 +1,6 @@
 -- Reading and writing against each other, under one frame limit, and what a refused write leaves of the output. A frame is
 -- written from a lent source, in which its places are.
-use Rattle.std.specs.Prelude.{◌≡◌, false, List, ◌++◌, ℕ, ◌+◌, ◌≤◌, length as len, take, drop}
+use Rattle.std.specs.Prelude.{◌≡◌, false, List, ◌++◌, ℕ, ◌≤◌, length as len, take, drop}
 use Rattle.wire.specs.Integers.{Bytes}
 use Rattle.protocol.specs.Fields.{Fields, values_in, PlacesEndBy}
 use Rattle.protocol.specs.Frames.{fields_of, values_of}

@@ -27,7 +27,7 @@ pub fn open_chunk(chunk: &[u8], reader: &mut [u64; 4]) -> u8
 pub fn next_entry(chunk: &[u8], reader: &mut [u64; 4], entry: &mut [u64; 8]) -> Found
     ensures value { result ≡ next_found chunk.now reader.old }
     ensures reader_after { reader.new ≡ reader_after chunk.now reader.old }
-    ensures after { entry.new ≡ entry_after chunk.now reader.old entry.old }
+    ensures entry_after { entry.new ≡ entry_after chunk.now reader.old entry.old }
 {
     let at = reader[0] as usize;
     let left = reader[1] as usize;

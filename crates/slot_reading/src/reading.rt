@@ -142,7 +142,7 @@ fn read_unsigned(
     slot: usize,
 ) -> Stop
     ensures value { result ≡ stop (read_field (unsigned (width_of width) most) s.now at) }
-    ensures by_index { (base : ℕ) → slots.new ≡ field_slots base (unsigned (width_of width) most) (read_field (unsigned (width_of width) most) s.now at) slots.old slot }
+    ensures slots_after { (base : ℕ) → slots.new ≡ field_slots base (unsigned (width_of width) most) (read_field (unsigned (width_of width) most) s.now at) slots.old slot }
 {
     let end = unsigned_end(s, at, width, most);
     if end.refused != 0 {
@@ -191,7 +191,7 @@ fn read_specification(
     slot: usize,
 ) -> Stop
     ensures value { result ≡ stop (read_field (specification admits_none) s.now at) }
-    ensures by_index { (base : ℕ) → slots.new ≡ field_slots base (specification admits_none) (read_field (specification admits_none) s.now at) slots.old slot }
+    ensures slots_after { (base : ℕ) → slots.new ≡ field_slots base (specification admits_none) (read_field (specification admits_none) s.now at) slots.old slot }
 {
     let end = specification_end(s, at, admits_none);
     if end.refused != 0 {

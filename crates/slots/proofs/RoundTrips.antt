@@ -29,7 +29,7 @@ use Rattle.protocol.specs.declared.place.Place.{Place}
 use Rattle.rules.specs.Exactness.{frame_length}
 use Rattle.rules.specs.Grammar.{Value, encode_string, encode_offset, encode_header, encode, encode_row, ValidString, ValidOffset, ValidHeader, Valid, ValidRow}
 use Rattle.rules.specs.Reading.{Reading}
-use Rattle.rules.specs.Writing.{length, place_of, write_frame}
+use Rattle.rules.specs.Writing.{place_of, write_frame}
 use Rattle.rules.proofs.CompleteChunks.{type_fits}
 use Rattle.rules.proofs.Gives.{choice}
 use Rattle.rules.proofs.Inside.{inside, ends_later}

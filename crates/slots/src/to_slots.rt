@@ -94,7 +94,7 @@ fn not_null(place: Place) -> Place
 
 // The type, and the value: 0 where it has none.
 pub fn flat_offset(s: OffsetSpecification) -> FlatOffset
-    ensures value_value { result.kind ∷ result.value ∷ [] ≡ flat_offset s }
+    ensures slots { result.kind ∷ result.value ∷ [] ≡ flat_offset s }
     ensures signed_offset { SignedOffset s }
 {
     match s {

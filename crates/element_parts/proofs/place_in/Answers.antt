@@ -24,13 +24,13 @@ loop-i-preserved c =
     let more : l.i < length fields = omega arith in
     let m = rw c.field_kind-kind.ensures at c.slots_of-n.ensures.0 in
     elim c.if-n-ne0.branch [
-      then-n-ne0+else-before-eq0 w ↦ record {
+      | then-n-ne0+else-before-eq0 w ↦ record {
         few = omega arith;
         near = omega arith;
         six = l.invariant.six;
         same = rw (w.before-is, w.at-is) (field_passed fields c.args.slots l.i l.at l.before _ more m w.if-n-ne0.true w.if-before-eq0.false ∙ l.invariant.same);
       }
-    | else-n-ne0 w ↦ record {
+      | else-n-ne0 w ↦ record {
         few = omega arith;
         near = omega arith;
         six = l.invariant.six;
