@@ -1,6 +1,7 @@
 // The capture listed, a read at a time (01 "The listing program").
 ghost use Rattle.std.specs.Prelude.{false, List, ◌≡◌, ℕ, ◌+◌, ◌≤◌, ◌<◌, ◌≤ℤ◌, pos, length, take, drop};
 ghost use Rattle.listing_loop.specs.History.{History, nothing_yet, after_read, after_write};
+ghost use Rattle.listing_loop.specs.Reader.{Gives};
 ghost use Rattle.listing_loop.specs.Run.{Ran};
 ghost use Rattle.listing_loop.specs.Stages.{is_listing, is_over, stage_listed, stage_read, stage_written};
 ghost use Rattle.listing_loop.specs.Standing.{Stands};
@@ -95,7 +96,8 @@ fn turns<R: Read, W: Write>(
 
 // One read, by how many bytes it put at the start of the part, or by a negative number if it failed.
 fn one_read<R: Read>(reader: &mut R, part: &mut [u8]) -> isize
-    ensures { result ≤ℤ pos (length part.new) }
+    ensures within { result ≤ℤ pos (length part.new) }
+    ensures given { Gives (R.remaining reader.old) (R.remaining reader.new) result part.new }
 {
     match reader.read(part) {
         Ok(n) => n as isize,
