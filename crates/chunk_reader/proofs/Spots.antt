@@ -16,7 +16,7 @@ use Rattle.byte_strings.specs.declared.stop.Stop.{Stop}
 use Rattle.byte_strings.proofs.Stops.{stopped}
 use Rattle.chunks.specs.Entries.{entry_count}
 use Rattle.chunks.proofs.Chunks.{whole}
-use Rattle.chunks.proofs.Entries.{EntryRead, entry_read}
+use Rattle.chunks.proofs.Entries.{entry_read}
 use Rattle.parts.specs.Parts.{part_at}
 use Rattle.chunk_reader.specs.Messages.{is_refused, place_in, message_in}
 use Rattle.chunk_reader.specs.Reader.{spot, started, behind_entry, advanced}
@@ -57,8 +57,8 @@ module _ (s : List ℕ) (p : Spot) where
       pub entry_refused : (e.refused ≡ 0 → ⊥) → spot p.at p.left (Refused e.refused) ≡ advanced s p
       entry_refused z = rw (asks_entry, stopped (read_entry s p.at) e i z)
 
-      pub entry_found : e.refused ≡ 0 → EntryRead s p.at e.at × (spot e.at (p.left - 1) (Message (place (p.at + 4) (e.at - (p.at + 4)))) ≡ advanced s p)
-      entry_found z = let r = entry_read s p.at e i z in (r, rw (asks_entry, r.read))
+      pub entry_found : e.refused ≡ 0 → spot e.at (p.left - 1) (Message (place (p.at + 4) (e.at - (p.at + 4)))) ≡ advanced s p
+      entry_found z = let r = entry_read s p.at e i z in rw (asks_entry, r.read)
 
 empty : (t : Bool) → cond {A = List ℕ} t [] [] ≡ []
 empty true = refl

@@ -49,6 +49,7 @@ pub fn start(s: &[u8]) -> Spot
 }
 
 // A question. A place that the host made up is read like any other (specs/Reader.antt, `advanced`).
+#[tactic(auto, using(crate::proofs::Spots::stays_refused, crate::proofs::Spots::is_done, crate::proofs::Spots::entry_refused, crate::proofs::Spots::entry_found))]
 pub fn advance(s: &[u8], p: Spot) -> Spot
     ensures { result ≡ advanced s.now p }
 {

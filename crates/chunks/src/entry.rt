@@ -28,6 +28,7 @@ pub fn entry_end(s: &[u8], at: usize) -> Stop
 }
 
 // Records equals entries (10, at the place of records), that many entries from a place on, and nothing else (11).
+#[tactic(auto, using(crate::proofs::Entries::records_differ, crate::proofs::Entries::entries_refused, crate::proofs::Entries::entries_left, crate::proofs::Entries::entries_used))]
 pub fn entries_of(s: &[u8], start: usize, entries: u64, records: u64, records_at: usize) -> Stop
     ensures { result ≡ stop (entries_from entries records records_at s.now start) }
 {

@@ -56,7 +56,8 @@ pub fn publish(slots: &[u64; 24], src: &[u8], limit: u32, out: &mut [u8]) -> Fas
     if !is_number(Width::One, publisher_id) {
         return Fast::Unwritten;
     }
-    if list_refusal(src, plain_list(Element::Message), count, at, len) != 0 {
+    let refused = list_refusal(src, plain_list(Element::Message), count, at, len);
+    if refused != 0 {
         return Fast::Unwritten;
     }
     let size = 9 + len;

@@ -104,15 +104,15 @@ open_told s = by (read_chunk s 0) (bounded_field K.chunk s 0)
     by (got f next) b = (refl, refl)
     by (refused n at) b = plain n (of_field n b.0)
 
-abbrev Found_told : Found → Type 0
-Found_told f = Tells (found_refusal f) (entries_in f) (next_answer f)
+abbrev FoundTold : Found → Type 0
+FoundTold f = Tells (found_refusal f) (entries_in f) (next_answer f)
 
-next_told : (s reader : List ℕ) → Found_told (next_spot s reader).found
+next_told : (s reader : List ℕ) → FoundTold (next_spot s reader).found
 unfolding next_spot advanced
 next_told s reader =
-    choice (λ (p : Spot). Found_told p.found) (eqb (get_or reader 1 0) 0) _ _ (λ _. (refl, refl)) (λ _. by (read_entry s (get_or reader 0 0)) (bounded_entry s (get_or reader 0 0)))
+    choice (λ (p : Spot). FoundTold p.found) (eqb (get_or reader 1 0) 0) _ _ (λ _. (refl, refl)) (λ _. by (read_entry s (get_or reader 0 0)) (bounded_entry s (get_or reader 0 0)))
   where
-    by : (o : Outcome Place) → Bounded s (get_or reader 0 0) o → Found_told (behind_entry (spot (get_or reader 0 0) (get_or reader 1 0) Ready) o).found
+    by : (o : Outcome Place) → Bounded s (get_or reader 0 0) o → FoundTold (behind_entry (spot (get_or reader 0 0) (get_or reader 1 0) Ready) o).found
     by (got m next) b = (omega arith, omega arith)
     by (refused n at) b = plain n (of_field n b.0)
 

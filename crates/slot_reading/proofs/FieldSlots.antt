@@ -202,19 +202,19 @@ module _ (s : List ℕ) (at base : ℕ) where
           rw (other n 0 (omega arith), other n 1 (omega arith), other n 2 (omega arith), other n 3 (omega arith), other n 4 (omega arith), other n 5 (omega arith)) tt
 
   module _ (admits_none : Bool) (b : Bytes s) (v last : ℕ) (e : v ≡ number_or_zero 2 s at) where
-    abbrev Offset_slots : ℕ → Type 0
-    Offset_slots x = Gives (λ f next. next ≡ last → v ∷ x ∷ [] ≡ flat_field (specification admits_none) (over_places (further base) f)) (read_field (specification admits_none) s at)
+    abbrev OffsetSlots : ℕ → Type 0
+    OffsetSlots x = Gives (λ f next. next ≡ last → v ∷ x ∷ [] ≡ flat_field (specification admits_none) (over_places (further base) f)) (read_field (specification admits_none) s at)
 
-    offset_put : (x : ℕ) → v ∷ x ∷ [] ≡ offset_values last → Offset_slots x
+    offset_put : (x : ℕ) → v ∷ x ∷ [] ≡ offset_values last → OffsetSlots x
     offset_put x j =
         weaker Typed (λ f next. next ≡ last → v ∷ x ∷ [] ≡ flat_field (specification admits_none) (over_places (further base) f)) (read_field (specification admits_none) s at)
         (λ f next h i. j ∙ ap offset_values (sym i) ∙ h.values)
         (typed admits_none b)
 
-    pub offset_alone : last ≡ at + 2 → Offset_slots 0
+    pub offset_alone : last ≡ at + 2 → OffsetSlots 0
     offset_alone l = offset_put 0 (rw (e, l, eq-eqb (at + 2) (at + 2) refl))
 
-    pub offset_more : (x : ℕ) → (last ≡ at + 2 → ⊥) → x ≡ number_or_zero 8 s (at + 2) → Offset_slots x
+    pub offset_more : (x : ℕ) → (last ≡ at + 2 → ⊥) → x ≡ number_or_zero 8 s (at + 2) → OffsetSlots x
     offset_more x l i = offset_put x (rw (e, ne_eqb last (at + 2) l, i))
 
   -- ---- Lists

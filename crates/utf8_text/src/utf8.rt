@@ -100,6 +100,7 @@ fn after_byte(p: Pending, b: u8) -> Pending
 }
 
 // The alternatives of UTF8-char, by their first byte.
+#[tactic(auto, using(crate::proofs::Following::after_e0, crate::proofs::Following::after_ed, crate::proofs::Following::after_f0, crate::proofs::Following::after_f4, crate::proofs::Following::one_byte, crate::proofs::Following::two_bytes_lem, crate::proofs::Following::three_bytes, crate::proofs::Following::three_bytes_high, crate::proofs::Following::four_bytes, crate::proofs::Following::no_first_low, crate::proofs::Following::no_first_high), unfolding(crate::specs::Utf8::expects))]
 fn after_first(b: u8) -> Pending
     ensures { expects result ≡ first b }
 {

@@ -29,7 +29,7 @@ publish_spec =
     let list = listed.before in
     let kind = list.before in
     let start = kind.before.before.before.before.before.before.before.before.before in
-    let w = plain_written _ Message start.before.args.src.now (get_or start.before.args.slots.now 3 0) (get_or start.before.args.slots.now 4 0) (get_or start.before.args.slots.now 5 0) _ kind.plain_list.ensures list.list_refusal.ensures listed.if-list_refusal-ne0.false in
+    let w = plain_written _ Message start.before.args.src.now (get_or start.before.args.slots.now 3 0) (get_or start.before.args.slots.now 4 0) (get_or start.before.args.slots.now 5 0) _ kind.plain_list.ensures list.list_refusal-refused.ensures listed.if-refused-ne0.false in
     omega (arith, w.inside, start.before.well_formed.1.0.0))
     (λ c κs. search rules)
     (λ c. search rules)
@@ -54,7 +54,7 @@ publish_spec =
     let kind = list.before in
     let short = kind.before in
     let start = short.before.before.before.before.before.before.before.before in
-    let w = plain_written _ Message start.before.args.src.now (get_or start.before.args.slots.now 3 0) (get_or start.before.args.slots.now 4 0) (get_or start.before.args.slots.now 5 0) _ kind.plain_list.ensures list.list_refusal.ensures listed.if-list_refusal-ne0.false in
+    let w = plain_written _ Message start.before.args.src.now (get_or start.before.args.slots.now 3 0) (get_or start.before.args.slots.now 4 0) (get_or start.before.args.slots.now 5 0) _ kind.plain_list.ensures list.list_refusal-refused.ensures listed.if-refused-ne0.false in
     let src = start.before.args.src.now in
     frame_put 0x0002 _ _ start.before.args.out.now _ _ _ _ (publish_row start.before.args.slots.now src (room _ _ _ short.before.is_number.ensures short.if-not-is_number.false-raw) w) (limit.fits.ensures.0 (not-false _ roomy.if-not-fits.false-raw))
     (part_next src _ _ _ _ _ _ _ w.inside (put_next _ _ _ _ _ _ (put_next _ _ _ _ _ _ head.put_head-next.ensures first.put_number-next.ensures) second.put_number-next-2.ensures) last.put_bytes.ensures)))
