@@ -66,6 +66,7 @@ pub fn taken(at: Input, n: usize) -> Input
 
 // Where the window has less room than for `longest` bytes after those that it holds, these are moved to its front. So there is
 // room to read, if fewer than the longest are not taken yet and the window holds so many.
+#[tactic(auto, using(crate::proofs::Windows::placed, crate::proofs::Windows::placed_length, crate::proofs::Windows::front_shows))]
 pub fn make_room(window: &mut [u8], at: Input, longest: usize) -> Input
     ensures shows { (reads : List (List ℕ)) → Shows reads at window.old → Shows reads result window.new }
     ensures offset { result.offset ≡ at.offset }

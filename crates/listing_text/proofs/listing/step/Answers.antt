@@ -9,13 +9,13 @@ pub overflow_cast-slots : goal.overflow_cast-slots
 unfolding Bytes
 overflow_cast-slots c =
     let frame = frame_is c.args.window.now c.args.p.from _ _ c.next_frame.ensures.value _ _ _ c.in-Frame.is (λ i. (c.type_inv.window i).fits) c.next_frame.ensures.slots_after in
-    record { fits = frame.keyed.key_fits }
+    record { fits = omega (arith, frame.keyed.key_fits, frame.keyed.version_fits) }
 
 pub overflow_cast-slots-in-Frame : goal.overflow_cast-slots-in-Frame
 unfolding Bytes
 overflow_cast-slots-in-Frame c =
     let frame = frame_is c.args.window.now c.args.p.from _ _ c.next_frame.ensures.value _ _ _ c.in-Frame.is (λ i. (c.type_inv.window i).fits) c.next_frame.ensures.slots_after in
-    record { fits = frame.keyed.version_fits }
+    record { fits = omega (arith, frame.keyed.key_fits, frame.keyed.version_fits) }
 
 pub frame_step-requires : goal.frame_step-requires
 unfolding Bytes
