@@ -1,5 +1,7 @@
 -- The refusal numbers (01 "Refusal numbers").
 use Rattle.std.specs.Prelude.{ℕ}
+use Rattle.protocol.specs.declared.refusal.Refusal.{Refusal}
+use Rattle.protocol.specs.declared.refusal.Refusal.TheVariants.{Short, FrameTooLarge, FrameTooSmall, UnknownKey, UnknownVersion, FieldCut, BadLength, NotUtf8, ReferenceTooLong, ValueNotAdmitted, BytesLeft, NoRoom, NotOpen, AlreadyOpen, NoCredit, OverLimit, NotOut}
 
 abbrev pub short : ℕ
 short = 1
@@ -52,3 +54,22 @@ over_limit = 16
 
 abbrev pub not_out : ℕ
 not_out = 17
+
+abbrev pub number_of : Refusal → ℕ
+number_of Short = short
+number_of FrameTooLarge = frame_too_large
+number_of FrameTooSmall = frame_too_small
+number_of UnknownKey = unknown_key
+number_of UnknownVersion = unknown_version
+number_of FieldCut = field_cut
+number_of BadLength = bad_length
+number_of NotUtf8 = not_utf8
+number_of ReferenceTooLong = reference_too_long
+number_of ValueNotAdmitted = value_not_admitted
+number_of BytesLeft = bytes_left
+number_of NoRoom = no_room
+number_of NotOpen = not_open
+number_of AlreadyOpen = already_open
+number_of NoCredit = no_credit
+number_of OverLimit = over_limit
+number_of NotOut = not_out
