@@ -1,15 +1,16 @@
 -- Each case of the typed frame is held against its row of the table, which computes. Assumes nothing.
 use mathlib.Core.Path.{◌≡◌, refl}
+use Rattle.std.specs.declared.option.Option.{Option}
+use Rattle.std.specs.Prelude.{None, Some}
 use Rattle.protocol.specs.Table.{table, row_in}
 use Rattle.protocol.specs.Fields.{string}
 use Rattle.protocol.specs.Frames.{nullable_field, OfTable}
 use Rattle.protocol.specs.declared.frame.Frame.TheVariants.{DeclarePublisher, Publish, PublishV2, PublishConfirm, PublishError, QueryPublisher, DeletePublisher, Subscribe, Deliver, DeliverV2, Credit, StoreOffset, QueryOffset, Unsubscribe, Create, Delete, Metadata, MetadataUpdate, PeerProperties, SaslHandshake, SaslAuthenticate, Tune, Open, Close, Heartbeat, Route, Partitions, ConsumerUpdate, ExchangeCommandVersions, StreamStats, CreateSuperStream, DeleteSuperStream, DeclarePublisherResponse, QueryPublisherResponse, DeletePublisherResponse, SubscribeResponse, CreditResponse, QueryOffsetResponse, UnsubscribeResponse, CreateResponse, DeleteResponse, MetadataResponse, PeerPropertiesResponse, SaslHandshakeResponse, SaslAuthenticateResponse, TuneResponse, OpenResponse, CloseResponse, RouteResponse, PartitionsResponse, ConsumerUpdateResponse, ExchangeCommandVersionsResponse, StreamStatsResponse, CreateSuperStreamResponse, DeleteSuperStreamResponse}
-use Rattle.protocol.specs.declared.place.NullablePlace.{NullablePlace}
-use Rattle.protocol.specs.declared.place.NullablePlace.TheVariants.{Null, At}
+use Rattle.protocol.specs.declared.place.Place.{Place}
 
-nullable : (r : NullablePlace) → nullable_field r ≡ string (nullable_field r).octets
-nullable Null = refl
-nullable (At p) = refl
+nullable : (r : Option Place) → nullable_field r ≡ string (nullable_field r).octets
+nullable None = refl
+nullable (Some p) = refl
 
 pub of_table : OfTable
 unfolding table row_in

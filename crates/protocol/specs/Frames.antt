@@ -1,5 +1,6 @@
 -- The typed frame's key, version and fields, case by case in the order of 01.
-use Rattle.std.specs.Prelude.{◌≡◌, Bool, cond, List, [], ◌∷◌, ℕ}
+use Rattle.std.specs.declared.option.Option.{Option}
+use Rattle.std.specs.Prelude.{◌≡◌, Bool, cond, List, [], ◌∷◌, ℕ, None, Some}
 use Rattle.std.proofs.Math.Option.{none, some}
 use Rattle.protocol.specs.Kinds.{Kind, Row, end, ◌·◌, unsigned, signed, specification, list}
 use Rattle.protocol.specs.Kinds as K
@@ -9,8 +10,6 @@ use Rattle.protocol.specs.declared.chunk.Chunk.{Chunk}
 use Rattle.protocol.specs.declared.frame.Frame.{Frame}
 use Rattle.protocol.specs.declared.frame.Frame.TheVariants.{DeclarePublisher, Publish, PublishV2, PublishConfirm, PublishError, QueryPublisher, DeletePublisher, Subscribe, Deliver, DeliverV2, Credit, StoreOffset, QueryOffset, Unsubscribe, Create, Delete, Metadata, MetadataUpdate, PeerProperties, SaslHandshake, SaslAuthenticate, Tune, Open, Close, Heartbeat, Route, Partitions, ConsumerUpdate, ExchangeCommandVersions, StreamStats, CreateSuperStream, DeleteSuperStream, DeclarePublisherResponse, QueryPublisherResponse, DeletePublisherResponse, SubscribeResponse, CreditResponse, QueryOffsetResponse, UnsubscribeResponse, CreateResponse, DeleteResponse, MetadataResponse, PeerPropertiesResponse, SaslHandshakeResponse, SaslAuthenticateResponse, TuneResponse, OpenResponse, CloseResponse, RouteResponse, PartitionsResponse, ConsumerUpdateResponse, ExchangeCommandVersionsResponse, StreamStatsResponse, CreateSuperStreamResponse, DeleteSuperStreamResponse}
 use Rattle.protocol.specs.declared.place.Elements.{Elements}
-use Rattle.protocol.specs.declared.place.NullablePlace.{NullablePlace}
-use Rattle.protocol.specs.declared.place.NullablePlace.TheVariants.{Null, At}
 use Rattle.protocol.specs.declared.place.Place.{Place}
 use Rattle.protocol.specs.declared.response_code.ResponseCode.{ResponseCode}
 
@@ -24,9 +23,9 @@ flag_field b = number (cond b 1 0)
 abbrev pub place_field : Place → Field Place
 place_field p = string (some p)
 
-abbrev pub nullable_field : NullablePlace → Field Place
-nullable_field Null = string none
-nullable_field (At p) = string (some p)
+abbrev pub nullable_field : Option Place → Field Place
+nullable_field None = string none
+nullable_field (Some p) = string (some p)
 
 abbrev pub list_field : Elements → Field Place
 list_field l = elements l.count l.place

@@ -1,7 +1,7 @@
 // The typed frame: one case for each layout (01 "Frame and keys"), its fields in wire order.
 use crate::chunk::Chunk;
 use crate::offset::OffsetSpecification;
-use crate::place::{Elements, NullablePlace, Place};
+use crate::place::{Elements, Place};
 use crate::response_code::ResponseCode;
 
 #[derive(Clone, Copy)]
@@ -9,7 +9,7 @@ pub enum Frame {
     DeclarePublisher {
         correlation_id: u32,
         publisher_id: u8,
-        reference: NullablePlace,
+        reference: Option<Place>,
         stream: Place,
     },
     Publish {
@@ -99,7 +99,7 @@ pub enum Frame {
     SaslAuthenticate {
         correlation_id: u32,
         mechanism: Place,
-        opaque: NullablePlace,
+        opaque: Option<Place>,
     },
     Tune {
         frame_max: u32,
@@ -204,7 +204,7 @@ pub enum Frame {
     SaslAuthenticateResponse {
         correlation_id: u32,
         code: ResponseCode,
-        opaque: NullablePlace,
+        opaque: Option<Place>,
     },
     TuneResponse {
         frame_max: u32,

@@ -20,6 +20,6 @@ pub use kind::{
 };
 pub use layout::{Decided, Picked, layout_of};
 pub use offset::OffsetSpecification;
-pub use place::{Elements, NullablePlace, Place};
+pub use place::{Elements, Place};
 pub use refusal::Refusal;
 pub use response_code::ResponseCode;

@@ -1,17 +1,10 @@
 // Where a field's bytes stand in the lent buffer.
 
-// len bytes from at on.
+// len bytes from at on. What may be null is an Option of a place: null has none, and is not the empty one.
 #[derive(Clone, Copy)]
 pub struct Place {
     pub at: usize,
     pub len: usize,
-}
-
-// The place of a text or byte string that may be null. Null has no place, and is not the empty one.
-#[derive(Clone, Copy)]
-pub enum NullablePlace {
-    Null,
-    At(Place),
 }
 
 // A list: how many elements, and the place of their encoding, one after another.
