@@ -1,18 +1,19 @@
--- What a stop tells of what was read: a refusal has a number other than 0, so 0 says that nothing was refused. And loops over
--- things of one sort: what is left to read from the place reached stops where the whole does. Assumes nothing.
+-- What a reader's answer tells of what was read: a refusal has a number other than 0, so 0 says that nothing was refused. And
+-- loops over things of one sort: what is left to read from the place reached stops where the whole does. Assumes nothing.
 use mathlib.Core.Path.{◌≡◌, refl, ◌∙◌, sym, ap}
 use mathlib.Core.List.{List}
 use Prim.Native.Nat.{ℕ, zero, suc, ◌-◌, ◌<◌, ◌≤◌}
 use native.Mathlib.Omega.{arith}
 use lib.ListN.{length}
 use borrow.Author.Tests.{lt-ltb, le-ltb}
-use Rattle.protocol.specs.Refusals.{bytes_left}
+use Rattle.std.specs.Prelude.{Some, None, Ok, Err}
+use Rattle.protocol.specs.Refusals.{bytes_left, number_of}
+use Rattle.protocol.proofs.Refused.{some_number}
 use Rattle.rules.specs.Outcome.{Outcome, got, refused, then, repeated}
 use Rattle.rules.specs.Writing.{Encoding, used_up}
-use Rattle.rules.proofs.Bounds.{Numbered, Bounded, numbered}
-use Rattle.byte_strings.specs.Stops.{end_of, stop, stop_at, refusal_of}
-use Rattle.byte_strings.specs.declared.stop.Stop.{Stop}
-use Rattle.byte_strings.proofs.PlainEnds.{end_refused, end_stays}
+use Rattle.rules.proofs.Bounds.{Numbered}
+use Rattle.byte_strings.specs.Stops.{Stop, end_of, stop, stop_at, told, refusal_of}
+use Rattle.byte_strings.specs.declared.fault.Fault.{Fault}
 
 module _ {A : Type 0} (o : Outcome A) where
   -- By the number.
@@ -30,74 +31,77 @@ module _ {A : Type 0} (o : Outcome A) where
       by (got a next) k j = (a, rw j)
       by (refused m at) k j = absurd (k (sym (ap (λ (x : Stop). x.refused) j) ∙ z))
 
-  -- By the plain place.
-  pub ended : (e : ℕ) → e ≡ end_of o → (e ≡ 0 → ⊥) → (a : A) × (o ≡ got a e)
-  ended e i z = by o i
-    where
-      by : (p : Outcome A) → e ≡ end_of p → (a : A) × (p ≡ got a e)
-      by (got a next) j = (a, rw j)
-      by (refused m at) j = absurd (z j)
+  -- By a reader's answer.
+  pub read_to : (next : ℕ) → Numbered o → told (Ok next) ≡ stop o → (a : A) × (o ≡ got a next)
+  read_to next n i = passed (stop_at next 0) n i refl
 
-  pub stop_ended : (e : ℕ) → e ≡ end_of o → (e ≡ 0 → ⊥) → stop_at e 0 ≡ stop o
-  stop_ended e i z = ap stop (sym (ended e i z).1)
+  pub refused_at : (f : Fault) → told (Err f) ≡ stop o → o ≡ refused (number_of f.refusal) f.at
+  refused_at f i = stopped (stop_at f.at (number_of f.refusal)) i (some_number f.refusal)
+
+  -- By the plain place.
+  pub ended : (e : ℕ) → Some e ≡ end_of o → (a : A) × (o ≡ got a e)
+  ended e i = by o i
+    where
+      by : (p : Outcome A) → Some e ≡ end_of p → (a : A) × (p ≡ got a e)
+      by (got a next) j = (a, cc)
+      by (refused m at) j = cc
+
+  pub not_ended : None ≡ end_of o → (n : ℕ) × (at : ℕ) × (o ≡ refused n at)
+  not_ended i = by o i
+    where
+      by : (p : Outcome A) → None ≡ end_of p → (n : ℕ) × (at : ℕ) × (p ≡ refused n at)
+      by (got a next) j = cc
+      by (refused n at) j = (n, at, refl)
+
+  pub stop_ended : (e : ℕ) → Some e ≡ end_of o → told (Ok e) ≡ stop o
+  stop_ended e i = ap stop (sym (ended e i).1)
+
+-- One thing after another: after the first is read, the second tells; and the first refusal is the answer.
+module _ {A B : Type 0} (o : Outcome A) (f : A → ℕ → Outcome B) where
+  pub told_then : (next : ℕ) → Numbered o → told (Ok next) ≡ stop o → (a : A) × (then o f ≡ f a next)
+  told_then next n i = let r = read_to o next n i in (r.0, ap (λ (p : Outcome A). then p f) r.1)
+
+  pub told_refused : (e : Fault) → told (Err e) ≡ stop o → told (Err e) ≡ stop (then o f)
+  told_refused e i = rw (refused_at o e i)
 
 -- ---- Loops
 
 module _ {A : Type 0} (read : List ℕ → ℕ → Outcome A) (s : List ℕ) where
-  pub none_left : (left at : ℕ) → left ≡ 0 → stop_at at 0 ≡ stop (repeated read left s at)
+  pub none_left : (left at : ℕ) → left ≡ 0 → told (Ok at) ≡ stop (repeated read left s at)
   unfolding repeated
   none_left left at z = rw z
 
+  pub none_left_plain : (left at : ℕ) → left ≡ 0 → Some at ≡ end_of (repeated read left s at)
+  unfolding repeated
+  none_left_plain left at z = rw z
+
   -- One that was read, and those after it.
-  after_one : (left at next : ℕ) (a : A) → (left ≡ 0 → ⊥) → read s at ≡ got a next → repeated read left s at ≡ repeated read (left - 1) s next
+  pub after_one : (left at next : ℕ) (a : A) → (left ≡ 0 → ⊥) → read s at ≡ got a next → repeated read left s at ≡ repeated read (left - 1) s next
   unfolding repeated
   after_one zero at next a z e = absurd (z refl)
   after_one (suc n) at next a z e = let k : suc n - 1 ≡ n = omega arith in rw (e, k)
 
   -- One that is refused.
-  at_one : (left at m p : ℕ) → (left ≡ 0 → ⊥) → read s at ≡ refused m p → repeated read left s at ≡ refused m p
+  pub at_one : (left at m p : ℕ) → (left ≡ 0 → ⊥) → read s at ≡ refused m p → repeated read left s at ≡ refused m p
   unfolding repeated
   at_one zero at m p z e = absurd (z refl)
   at_one (suc n) at m p z e = rw e
 
-  -- A loop that asks for the plain place after each, for a stop or for a plain place.
-  after_end : (left at e : ℕ) → (left ≡ 0 → ⊥) → e ≡ end_of (read s at) → (e ≡ 0 → ⊥) → repeated read (left - 1) s e ≡ repeated read left s at
-  after_end left at e z i k = let r = ended (read s at) e i k in sym (after_one left at e r.0 z r.1)
+  -- A loop that asks for the plain place after each.
+  module _ (left at : ℕ) (z : left ≡ 0 → ⊥) where
+    pub after_end : (e : ℕ) → Some e ≡ end_of (read s at) → repeated read (left - 1) s e ≡ repeated read left s at
+    after_end e i = let r = ended (read s at) e i in sym (after_one left at e r.0 z r.1)
 
-  pub turns : (left at e : ℕ) → (left ≡ 0 → ⊥) → e ≡ end_of (read s at) → (e ≡ 0 → ⊥) → stop (repeated read (left - 1) s e) ≡ stop (repeated read left s at)
-  turns left at e z i k = ap stop (after_end left at e z i k)
+    pub stops_plain : None ≡ end_of (read s at) → None ≡ end_of (repeated read left s at)
+    stops_plain i = let r = not_ended (read s at) i in ap end_of (sym (at_one left at r.0 r.1 z r.2))
 
-  pub turns_plain : (left at e : ℕ) → (left ≡ 0 → ⊥) → e ≡ end_of (read s at) → (e ≡ 0 → ⊥) → end_of (repeated read (left - 1) s e) ≡ end_of (repeated read left s at)
-  turns_plain left at e z i k = ap end_of (after_end left at e z i k)
+    -- A refusal of one is that of all.
+    pub stops_told : (e : Fault) → told (Err e) ≡ stop (read s at) → told (Err e) ≡ stop (repeated read left s at)
+    stops_told e i = ap stop (sym (at_one left at (number_of e.refusal) e.at z (refused_at (read s at) e i)))
 
-  pub none_left_plain : (left at : ℕ) → left ≡ 0 → at ≡ end_of (repeated read left s at)
-  unfolding repeated
-  none_left_plain left at z = rw z
-
-  -- At 0 one is refused, or takes no bytes; then all after it take none either.
-  pub stops : ((from : ℕ) → Bounded s from (read s from)) → (left at e : ℕ) (r : Stop) → (left ≡ 0 → ⊥) → e ≡ end_of (read s at) → e ≡ 0 → r ≡ stop (read s at) → r ≡ stop (repeated read left s at)
-  unfolding repeated
-  stops bounded zero at e r z i k f = absurd (z refl)
-  stops bounded (suc n) at e r z i k f = by (read s at) refl (bounded at) (sym k ∙ i) f
-    where
-      by : (o : Outcome A) → read s at ≡ o → Bounded s at o → 0 ≡ end_of o → r ≡ stop o → r ≡ stop (then o (λ a next. repeated read n s next))
-      by (got a next) j b y g =
-          let start : at ≡ 0 = omega (arith, b.0) in
-          let last : next ≡ 0 = sym y in
-          g ∙ rw last (ap stop (sym (end_stays read s a (rw (start, last) at j) n)))
-      by (refused m p) j b y g = g
-
-  pub stops_plain : ((from : ℕ) → Bounded s from (read s from)) → (left at e : ℕ) → (left ≡ 0 → ⊥) → e ≡ end_of (read s at) → e ≡ 0 → 0 ≡ end_of (repeated read left s at)
-  stops_plain bounded zero at e z i k = absurd (z refl)
-  stops_plain bounded (suc n) at e z i k = end_refused read s bounded n at e i k
-
-  -- A loop that asks for the stop after each.
-  module _ (bounded : (from : ℕ) → Bounded s from (read s from)) (left at : ℕ) (e : Stop) (z : left ≡ 0 → ⊥) (i : e ≡ stop (read s at)) where
-    pub turns_by_stop : e.refused ≡ 0 → stop (repeated read (left - 1) s e.at) ≡ stop (repeated read left s at)
-    turns_by_stop k = let r = passed (read s at) e (numbered s at (read s at) (bounded at)) i k in ap stop (sym (after_one left at e.at r.0 z r.1))
-
-    pub stops_by_stop : (e.refused ≡ 0 → ⊥) → e ≡ stop (repeated read left s at)
-    stops_by_stop k = ap stop (sym (at_one left at e.refused e.at z (stopped (read s at) e i k)))
+    -- A loop that asks for the reason too.
+    pub after_told : Numbered (read s at) → (e : ℕ) → told (Ok e) ≡ stop (read s at) → repeated read (left - 1) s e ≡ repeated read left s at
+    after_told n e i = let r = read_to (read s at) e n i in sym (after_one left at e r.0 z r.1)
 
 -- ---- Pieces that are written: their refusal, or 11 if bytes of the part are left, or what comes after them
 

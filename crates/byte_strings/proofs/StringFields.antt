@@ -9,7 +9,7 @@ use native.Mathlib.Omega.{arith}
 use lib.Dec.{eqb, ltb, leb, lit<, lit≤}
 use lib.IntN.{pos, negsuc}
 use lib.ListN.{length, take, drop}
-use borrow.Author.Tests.{lt-ltb, le-ltb, lt-leb, ltb-true, ltb-false, leb-true, leb-false, eqb-true, eqb-false, not-false}
+use borrow.Author.Tests.{lt-ltb, le-ltb, lt-leb, ltb-true, ltb-false, leb-true, leb-false, eqb-true, eqb-false}
 use Rattle.wire.specs.Integers.{Bytes, big_endian, digits, number_or_zero}
 use Rattle.wire.specs.Signed.{signed}
 use Rattle.wire.proofs.TwosComplement.{below_half, above_half, minus_one, below_minus_one}
@@ -121,8 +121,8 @@ module _ (form : Form) (s : List ℕ) (at len : ℕ) where
       by false false false true i j k l z = record { short = leb-false _ _ i; limit = j; inside = ltb-false _ _ k; text = l }
 
   -- What `is_string` tells, if it is one.
-  pub passes : (r : Bool) → r ≡ eqb (refusal_of encoding) 0 → not r ≡ false → Admitted form s at len
-  passes r e h = admitted (eqb-true _ _ (sym e ∙ not-false r h))
+  pub passes : (r : Bool) → r ≡ eqb (refusal_of encoding) 0 → r ≡ true → Admitted form s at len
+  passes r e h = admitted (eqb-true _ _ (sym e ∙ h))
 
   pub admitted_bytes : (nullable : Bool) → Admitted form s at len → write_string form nullable s (some (place at len)) ≡ wrote bytes
   unfolding write_string

@@ -5,63 +5,53 @@ ghost use Rattle.wire.specs.Integers.{number_or_zero, width_of};
 ghost use Rattle.utf8_text.specs.Utf8.{utf8};
 ghost use Rattle.protocol.specs.Fields.{place};
 ghost use Rattle.protocol.specs.Kinds.{length_width};
-ghost use Rattle.protocol.specs.Refusals.{bad_length, reference_too_long};
+ghost use Rattle.protocol.specs.Refusals.{bad_length, number_in, reference_too_long};
 ghost use Rattle.rules.specs.Reading.{too_long, is_text};
 ghost use Rattle.rules.specs.Writing.{wrote, checked, write_string};
 ghost use Rattle.byte_strings.specs.Stops.{refusal_of};
 
-use protocol::{Form, refusal};
+use protocol::{Form, Refusal};
 use wire::Width;
 
-// Whether so many bytes from a place on are a byte string. The checks are those of `string_refusal`; a call of it would be slower.
+// Whether so many bytes from a place on are a byte string. The checks are those of `check_string`; a call of it would be slower.
 pub fn is_string(s: &[u8], at: usize, len: usize, form: Form) -> bool
     ensures { result ≡ eqb (refusal_of (write_string form false s.now (some (place at len)))) 0 }
 {
-    if length_refusal(form, len) != 0 {
-        return false;
-    }
-    if !wire::has_room(s.len(), at, len) {
-        return false;
-    }
-    is_text(s, at, len, form)
+    check_length(form, len).is_ok() && wire::has_room(s.len(), at, len) && is_text(s, at, len, form)
 }
 
-// Why they are none; 0 where they are one. The length, then the place (6), then UTF-8 (8).
-pub fn string_refusal(s: &[u8], at: usize, len: usize, form: Form) -> u8
-    ensures { result ≡ refusal_of (write_string form false s.now (some (place at len))) }
+// Why they are none. The length, then the place (6), then UTF-8 (8).
+pub fn check_string(s: &[u8], at: usize, len: usize, form: Form) -> Result<(), Refusal>
+    ensures { number_in result ≡ refusal_of (write_string form false s.now (some (place at len))) }
 {
-    let number = length_refusal(form, len);
-    if number != 0 {
-        return number;
-    }
+    check_length(form, len)?;
     if !wire::has_room(s.len(), at, len) {
-        return refusal::FIELD_CUT;
+        return Err(Refusal::FieldCut);
     }
     if !is_text(s, at, len, form) {
-        return refusal::NOT_UTF8;
+        return Err(Refusal::NotUtf8);
     }
-    0
+    Ok(())
 }
 
 // A negative length (7), the reference limit (9).
-fn length_refusal(form: Form, len: usize) -> u8
-    ensures { result ≡ refusal_of (checked (leb (256 ^ length_width form / 2) len) bad_length (checked (too_long form len) reference_too_long (wrote []))) }
+fn check_length(form: Form, len: usize) -> Result<(), Refusal>
+    ensures { number_in result ≡ refusal_of (checked (leb (256 ^ length_width form / 2) len) bad_length (checked (too_long form len) reference_too_long (wrote []))) }
 {
     if largest(form) < len as u64 {
-        return refusal::BAD_LENGTH;
+        return Err(Refusal::BadLength);
     }
     if too_long(form, len) {
-        return refusal::REFERENCE_TOO_LONG;
+        return Err(Refusal::ReferenceTooLong);
     }
-    0
+    Ok(())
 }
 
 pub fn length_width(form: Form) -> Width
     ensures { width_of result ≡ length_width form }
 {
     match form {
-        Form::Text => Width::Two,
-        Form::Reference => Width::Two,
+        Form::Text | Form::Reference => Width::Two,
         Form::Bytes => Width::Four,
     }
 }
@@ -71,8 +61,7 @@ fn largest(form: Form) -> u64
     ensures { result ≡ 256 ^ length_width form / 2 - 1 }
 {
     match form {
-        Form::Text => 0x7fff,
-        Form::Reference => 0x7fff,
+        Form::Text | Form::Reference => 0x7fff,
         Form::Bytes => 0x7fff_ffff,
     }
 }
@@ -81,9 +70,8 @@ fn too_long(form: Form, n: usize) -> bool
     ensures { result ≡ too_long form n }
 {
     match form {
-        Form::Text => false,
+        Form::Text | Form::Bytes => false,
         Form::Reference => 256 < n,
-        Form::Bytes => false,
     }
 }
 
@@ -93,13 +81,12 @@ fn is_text(s: &[u8], at: usize, len: usize, form: Form) -> bool
     ensures { result ≡ is_text form (take len (drop at s.now)) }
 {
     match form {
-        Form::Text => is_utf8_at(s, at, len),
-        Form::Reference => is_utf8_at(s, at, len),
+        Form::Text | Form::Reference => is_utf8_at(s, at, len),
         Form::Bytes => true,
     }
 }
 
-// `utf8_text::is_utf8` is long, and called only here, so it is inlined here. So `is_string` and `string_refusal` stay short enough to be
+// `utf8_text::is_utf8` is long, and called only here, so it is inlined here. So `is_string` and `check_string` stay short enough to be
 // inlined too, and their callers know the length and the room.
 fn is_utf8_at(s: &[u8], at: usize, len: usize) -> bool
     requires { at + len ≤ length s.now }
@@ -121,8 +108,7 @@ pub fn minus_one(form: Form) -> u64
     ensures { result ≡ 256 ^ length_width form - 1 }
 {
     match form {
-        Form::Text => 0xffff,
-        Form::Reference => 0xffff,
+        Form::Text | Form::Reference => 0xffff,
         Form::Bytes => 0xffff_ffff,
     }
 }

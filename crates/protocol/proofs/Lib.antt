@@ -5,3 +5,4 @@ pub mod PickedRows
 pub mod Counted
 pub mod FrameRows
 pub mod Numbers
+pub mod Refused
