@@ -1,7 +1,6 @@
 -- Lemmas that belong to no one function.
 pub mod Unlisted
-pub mod FieldNumbers
-pub mod PickedRows
+pub mod Picked
 pub mod Counted
 pub mod FrameRows
 pub mod Numbers

@@ -2,7 +2,7 @@
 use crate::place::Place;
 
 // The twelve numbers of the header, in wire order.
-#[derive(Clone, Copy)]
+#[derive(Clone, Copy, Debug, PartialEq, Eq)]
 pub struct ChunkHeader {
     pub magic: i8,
     pub chunk_type: i8,
@@ -20,7 +20,7 @@ pub struct ChunkHeader {
 }
 
 // The header, and the place of the data behind it.
-#[derive(Clone, Copy)]
+#[derive(Clone, Copy, Debug, PartialEq, Eq)]
 pub struct Chunk {
     pub header: ChunkHeader,
     pub data: Place,

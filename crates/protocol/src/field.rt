@@ -1,59 +1,108 @@
-// The kinds of field that a layout or a list's element has, as numbers, each with its notation in 01 ("Numbers and text on
-// the wire", "Frame and keys").
+// The kinds of field that a layout or a list's element has, each with its notation in 01 ("Numbers and text on the wire",
+// "Frame and keys").
+use crate::kind::{Element, FieldKind, Form, ListKind, ListRule};
+use wire::Width;
 
-// No field.
-pub const NONE: u8 = 0;
+pub const U8: FieldKind = FieldKind::Number(Width::One);
 
-pub const U8: u8 = 1;
+pub const U16: FieldKind = FieldKind::Number(Width::Two);
 
-pub const U16: u8 = 2;
+pub const U32: FieldKind = FieldKind::Number(Width::Four);
 
-pub const U32: u8 = 3;
+pub const U64: FieldKind = FieldKind::Number(Width::Eight);
 
-pub const U64: u8 = 4;
+pub const I64: FieldKind = FieldKind::Signed;
 
-pub const I64: u8 = 5;
-
-// Active, which is 0 or 1.
-pub const ACTIVE: u8 = 6;
+pub const ACTIVE: FieldKind = FieldKind::Active;
 // T
-pub const TEXT: u8 = 7;
+pub const TEXT: FieldKind = FieldKind::String {
+    form: Form::Text,
+    nullable: false,
+};
 // R
-pub const REFERENCE: u8 = 8;
+pub const REFERENCE: FieldKind = FieldKind::String {
+    form: Form::Reference,
+    nullable: false,
+};
 // B
-pub const BYTES: u8 = 9;
+pub const BYTES: FieldKind = FieldKind::String {
+    form: Form::Bytes,
+    nullable: false,
+};
 // T?
-pub const NULLABLE_TEXT: u8 = 10;
+pub const NULLABLE_TEXT: FieldKind = FieldKind::String {
+    form: Form::Text,
+    nullable: true,
+};
 // R?
-pub const NULLABLE_REFERENCE: u8 = 11;
+pub const NULLABLE_REFERENCE: FieldKind = FieldKind::String {
+    form: Form::Reference,
+    nullable: true,
+};
 // B?
-pub const NULLABLE_BYTES: u8 = 12;
+pub const NULLABLE_BYTES: FieldKind = FieldKind::String {
+    form: Form::Bytes,
+    nullable: true,
+};
 // spec, of type 1 to 5
-pub const SPECIFICATION: u8 = 13;
+pub const SPECIFICATION: FieldKind = FieldKind::Specification { admits_none: false };
 // spec, of type 0 to 5
-pub const SPECIFICATION_OR_NONE: u8 = 14;
+pub const SPECIFICATION_OR_NONE: FieldKind = FieldKind::Specification { admits_none: true };
 
-pub const CHUNK: u8 = 15;
+pub const CHUNK: FieldKind = FieldKind::Chunk;
 
 // [u64 B]
-pub const MESSAGES: u8 = 16;
+pub const MESSAGES: FieldKind = FieldKind::List(ListKind {
+    element: Element::Message,
+    rule: ListRule::PLAIN,
+});
 // [u64 T? B]
-pub const FILTERED_MESSAGES: u8 = 17;
+pub const FILTERED_MESSAGES: FieldKind = FieldKind::List(ListKind {
+    element: Element::FilteredMessage,
+    rule: ListRule::PLAIN,
+});
 // [u64]
-pub const PUBLISHING_IDS: u8 = 18;
+pub const PUBLISHING_IDS: FieldKind = FieldKind::List(ListKind {
+    element: Element::PublishingId,
+    rule: ListRule::PLAIN,
+});
 // [u64 u16]
-pub const PUBLISHING_ERRORS: u8 = 19;
+pub const PUBLISHING_ERRORS: FieldKind = FieldKind::List(ListKind {
+    element: Element::PublishingError,
+    rule: ListRule::PLAIN,
+});
 // [T T]
-pub const PROPERTIES: u8 = 20;
+pub const PROPERTIES: FieldKind = FieldKind::List(ListKind {
+    element: Element::Property,
+    rule: ListRule::PLAIN,
+});
 // [T]
-pub const NAMES: u8 = 21;
+pub const NAMES: FieldKind = FieldKind::List(ListKind {
+    element: Element::Name,
+    rule: ListRule::PLAIN,
+});
 // [u16 u16 u16]
-pub const COMMAND_VERSIONS: u8 = 22;
+pub const COMMAND_VERSIONS: FieldKind = FieldKind::List(ListKind {
+    element: Element::CommandVersions,
+    rule: ListRule::PLAIN,
+});
 // [u16 T u32]
-pub const BROKERS: u8 = 23;
+pub const BROKERS: FieldKind = FieldKind::List(ListKind {
+    element: Element::Broker,
+    rule: ListRule::PLAIN,
+});
 // [T u16 u16 [u16]]
-pub const STREAMS: u8 = 24;
+pub const STREAMS: FieldKind = FieldKind::List(ListKind {
+    element: Element::StreamMetadata,
+    rule: ListRule::PLAIN,
+});
 // [T i64]
-pub const STATISTICS: u8 = 25;
+pub const STATISTICS: FieldKind = FieldKind::List(ListKind {
+    element: Element::Statistic,
+    rule: ListRule::PLAIN,
+});
 // [u16]
-pub const BROKER_REFERENCES: u8 = 26;
+pub const BROKER_REFERENCES: FieldKind = FieldKind::List(ListKind {
+    element: Element::BrokerReference,
+    rule: ListRule::PLAIN,
+});

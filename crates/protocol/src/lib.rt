@@ -3,7 +3,7 @@
 
 mod chunk;
 mod element;
-pub mod field;
+mod field;
 mod frame;
 mod kind;
 mod layout;
@@ -15,10 +15,8 @@ mod response_code;
 pub use chunk::{Chunk, ChunkHeader};
 pub use element::element_fields;
 pub use frame::Frame;
-pub use kind::{
-    Element, FieldKind, Form, Keys, ListKind, ListRule, Presence, field_kind, plain_list,
-};
-pub use layout::{Decided, Picked, layout_of};
+pub use kind::{Element, FieldKind, Form, Keys, ListKind, ListRule, Presence, plain_list};
+pub use layout::layout_of;
 pub use offset::OffsetSpecification;
 pub use place::{Elements, Place};
 pub use refusal::Refusal;
