@@ -1,21 +1,29 @@
--- Where the checks of a field that is written end: with a refusal, or with its bytes. Assumes nothing.
-use mathlib.Core.Path.{◌≡◌, ◌∙◌, ap}
+-- Where the checks of a field that is written end: with a refusal, or with its bytes, which tell its length. Assumes nothing.
+use mathlib.Core.Path.{◌≡◌, ap}
 use mathlib.Core.Bool.{Bool, true, false}
-use mathlib.Core.List.{[], ◌++◌}
-use Prim.Native.Nat.{ℕ, ◌/◌, ◌^◌, ◌<◌, ◌≤◌}
+use mathlib.Core.List.{◌++◌}
+use Prim.Native.Nat.{ℕ, ◌+◌, ◌/◌, ◌^◌, ◌<◌, ◌≤◌}
 use native.Mathlib.Omega.{arith}
 use lib.IntN.{ℤ, pos, negsuc}
+use lib.ListN.{length, length-append}
 use borrow.Author.Tests.{lt-ltb, le-ltb, lt-leb}
+use Rattle.std.specs.Prelude.{Ok, Err}
 use Rattle.wire.specs.Integers.{digits}
-use Rattle.protocol.specs.Fields as F
-use Rattle.protocol.specs.Kinds.{specification}
-use Rattle.protocol.specs.Refusals.{value_not_admitted}
-use Rattle.protocol.specs.declared.offset.OffsetSpecification.TheVariants.{None, Offset, Timestamp}
-use Rattle.rules.specs.Writing.{wrote, refuse, fits_signed, write_unsigned, write_offset}
-use Rattle.wire.specs.Signed as two's
-use Rattle.fields.specs.Writer.{State, behind, step, step_field}
+use Rattle.wire.proofs.Widths.{integers}
+use Rattle.protocol.specs.Refusals.{number_of, value_not_admitted}
+use Rattle.protocol.specs.declared.refusal.Refusal.{Refusal}
+use Rattle.protocol.proofs.Refused.{some_number}
+use Rattle.rules.specs.Writing.{Encoding, wrote, refuse, fits_signed, write_unsigned}
+use Rattle.byte_strings.specs.Stops.{refusal_of}
+use Rattle.fields.specs.Passes.{length_told, measured}
 use mir.Syntax.{Width}
 use mir.Val.{SFits, hbits}
+
+pub digits_size : (n x : ℕ) → length (digits n x) ≡ n
+digits_size n x = (integers n).size x
+
+pub pair_size : (n m x y : ℕ) → length (digits n x ++ digits m y) ≡ n + m
+pair_size n m x y = rw (length-append (digits n x) (digits m y), digits_size n x, digits_size m y)
 
 -- A number.
 module _ (n most x : ℕ) where
@@ -25,29 +33,19 @@ module _ (n most x : ℕ) where
   pub fits : most < 256 ^ n → x ≤ most → write_unsigned n most x ≡ wrote (digits n x)
   fits h l = rw (le-ltb _ _ l, lt-leb (256 ^ n) x (omega arith))
 
+  pub number_measured : (k : ℕ) → k ≡ n → most < 256 ^ n → x ≤ most → length_told (Ok k) ≡ measured (write_unsigned n most x)
+  number_measured k e h l = rw (fits h l, digits_size n x, e)
+
 -- A signed number of a type fits the type's bytes.
 pub signed_fits : (w : Width) (n : ℕ) (z : ℤ) → 2 ^ hbits w ≡ 256 ^ n / 2 → SFits w z → fits_signed n z ≡ true
 signed_fits w n (pos x) e f = lt-ltb x (256 ^ n / 2) (rw (← e) f.sfits)
 signed_fits w n (negsuc k) e f = lt-ltb k (256 ^ n / 2) (rw (← e) f.sfits)
 
--- An offset specification: none where it is not admitted, and one with a number.
-pub none_not_admitted : (admits_none : Bool) → admits_none ≡ false → write_offset admits_none None ≡ refuse value_not_admitted
-unfolding write_offset
-none_not_admitted admits_none h = rw h
-
-pub position_fits : (admits_none : Bool) (x : ℕ) → x < 256 ^ 8 → write_offset admits_none (Offset x) ≡ wrote (digits 2 4 ++ digits 8 x)
-unfolding write_offset
-position_fits admits_none x h = rw (lt-leb (256 ^ 8) x h)
-
-pub timestamp_fits : (admits_none : Bool) (z : ℤ) → fits_signed 8 z ≡ true → write_offset admits_none (Timestamp z) ≡ wrote (digits 2 5 ++ digits 8 (two's.unsigned 8 z))
-unfolding write_offset
-timestamp_fits admits_none z h = rw h
-
--- The bits of the timestamp are what is put.
-pub timestamp_bits : (z : ℤ) (v : ℕ) (s t : State) → fits_signed 8 z ≡ true → v ≡ two's.unsigned 8 z → s ≡ step (wrote (digits 2 5 ++ digits 8 v)) (λ h. behind (digits 8 v) (behind (digits 2 5) h)) t → s ≡ step_field (specification false) [] (F.offset (Timestamp z)) t
-timestamp_bits z v s t f e i =
-    rw (timestamp_fits false z f) (i ∙ ap (λ (x : ℕ). step (wrote (digits 2 5 ++ digits 8 x)) (λ h. behind (digits 8 x) (behind (digits 2 5) h)) t) e)
-
-pub same_timestamp : (admits_none : Bool) (z y : ℤ) (s t : State) → y ≡ z → s ≡ step_field (specification false) [] (F.offset (Timestamp y)) t → s ≡ step_field (specification admits_none) [] (F.offset (Timestamp z)) t
-unfolding write_offset
-same_timestamp admits_none z y s t e i = i ∙ ap (λ (x : ℤ). step_field (specification false) [] (F.offset (Timestamp x)) t) e
+-- By the answer of a check, and what follows from it.
+module _ (e : Encoding) where
+  pub measured_refused : (r : Refusal) → number_of r ≡ refusal_of e → length_told (Err r) ≡ measured e
+  measured_refused r i = by e i
+    where
+      by : (e : Encoding) → number_of r ≡ refusal_of e → length_told (Err r) ≡ measured e
+      by (wrote b) i = absurd (some_number r i)
+      by (refuse n) i = rw i

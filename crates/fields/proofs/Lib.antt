@@ -1,5 +1,4 @@
 -- Lemmas that belong to no one function.
-pub mod Steps
 pub mod NumberEnds
 pub mod Specifications
 pub mod Encodings

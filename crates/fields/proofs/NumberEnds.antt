@@ -14,7 +14,7 @@ use Rattle.rules.specs.Outcome.{refused}
 use Rattle.rules.specs.Reading.{read_number, read_unsigned}
 use Rattle.rules.proofs.Numbers.{number_there, number_cut}
 use Rattle.byte_strings.specs.Stops.{stop}
-use Rattle.byte_strings.specs.declared.stop.Stop.{Stop}
+use Rattle.byte_strings.specs.Stops.{Stop}
 
 module _ (n most : ℕ) (s : List ℕ) (at v : ℕ) (e : v ≡ number_or_zero n s at) where
   by_there : (P : Type 0) → (at + n ≤ length s → v ≡ big_endian n s at → P) → (length s < at + n → v ≡ 0 → P) → P

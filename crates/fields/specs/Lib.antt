@@ -1,2 +1,2 @@
--- How the code's answers go with the definitions of writing.
-pub mod Writer
+-- How fields are measured and put.
+pub mod Passes

@@ -1,112 +1,87 @@
-// The offset specification, read and written.
-ghost use Rattle.protocol.specs.Fields as F;
-ghost use Rattle.protocol.specs.Kinds.{specification};
-ghost use Rattle.std.specs.Prelude.{false, [], ◌++◌, ◌≡◌};
+// The offset specification.
+ghost use Rattle.std.specs.Prelude.{◌≡◌};
+ghost use Rattle.wire.specs.Buffer.{holds};
 ghost use Rattle.wire.specs.Integers.{digits};
-ghost use Rattle.protocol.specs.declared.offset.OffsetSpecification.TheVariants.{None, Offset, Timestamp};
 ghost use Rattle.rules.specs.Reading.{read_specification};
-ghost use Rattle.rules.specs.Writing.{wrote};
-ghost use Rattle.byte_strings.specs.Stops.{stop};
-ghost use Rattle.fields.specs.Writer.{state, behind, step, step_field};
+ghost use Rattle.rules.specs.Writing.{write_offset};
+ghost use Rattle.byte_strings.specs.Stops.{stop, told};
+ghost use Rattle.fields.specs.Passes.{length_told, measured, behind, put_offset};
 
 use crate::number::number_end;
-use crate::writer::Writer;
-use byte_strings::Stop;
-use protocol::{OffsetSpecification, refusal};
+use byte_strings::Fault;
+use protocol::{OffsetSpecification, Refusal};
 use wire::Width;
 
 // Two bytes (6), type (10), and eight more bytes for types 4 and 5 (6). Type 0 is admitted in ConsumerUpdate's response only.
-pub fn specification_end(s: &[u8], at: usize, admits_none: bool) -> Stop
-    ensures { result ≡ stop (read_specification admits_none s.now at) }
+pub fn specification_end(s: &[u8], at: usize, admits_none: bool) -> Result<usize, Fault>
+    ensures { told result ≡ stop (read_specification admits_none s.now at) }
 {
     if !wire::has_room(s.len(), at, 2) {
-        return Stop::refuse(at, refusal::FIELD_CUT);
+        return Err(Fault {
+            refusal: Refusal::FieldCut,
+            at,
+        });
     }
     let number = at + 2;
     let kind = wire::number_or_zero(s, at, Width::Two);
     if (kind == 0) & !admits_none {
-        return Stop::refuse(at, refusal::VALUE_NOT_ADMITTED);
+        return Err(Fault {
+            refusal: Refusal::ValueNotAdmitted,
+            at,
+        });
     }
     if kind < 4 {
-        return Stop::after(number);
+        return Ok(number);
     }
     if kind < 6 {
         return number_end(s, number, Width::Eight);
     }
-    Stop::refuse(at, refusal::VALUE_NOT_ADMITTED)
+    Err(Fault {
+        refusal: Refusal::ValueNotAdmitted,
+        at,
+    })
 }
 
-// The type, and the number behind types 4 and 5. Type 0 is admitted in ConsumerUpdate's response only (10).
-pub fn write_offset(
-    w: Writer,
-    out: &mut [u8],
-    admits_none: bool,
-    offset: OffsetSpecification,
-) -> Writer
-    ensures { state result out.new ≡ step_field (specification admits_none) [] (F.offset offset) (state w out.old) }
+// The length of the type, and of the number behind types 4 and 5. Type 0 is admitted in ConsumerUpdate's response only (10).
+#[tactic(auto, using(crate::proofs::Encodings::digits_size, crate::proofs::Encodings::pair_size), unfolding(rules::specs::Writing::write_offset))]
+pub fn measure_offset(admits_none: bool, offset: OffsetSpecification) -> Result<usize, Refusal>
+    ensures { length_told result ≡ measured (write_offset admits_none offset) }
 {
     match offset {
-        OffsetSpecification::None => write_none(w, out, admits_none),
-        OffsetSpecification::First => write_type(w, out, 1),
-        OffsetSpecification::Last => write_type(w, out, 2),
-        OffsetSpecification::Next => write_type(w, out, 3),
-        OffsetSpecification::Offset(x) => write_position(w, out, x),
-        OffsetSpecification::Timestamp(z) => write_timestamp(w, out, z),
+        OffsetSpecification::None if !admits_none => Err(Refusal::ValueNotAdmitted),
+        OffsetSpecification::None => Ok(2),
+        OffsetSpecification::First => Ok(2),
+        OffsetSpecification::Last => Ok(2),
+        OffsetSpecification::Next => Ok(2),
+        OffsetSpecification::Offset(_) => Ok(10),
+        OffsetSpecification::Timestamp(_) => Ok(10),
     }
 }
 
-fn write_none(w: Writer, out: &mut [u8], admitted: bool) -> Writer
-    ensures { state result out.new ≡ step_field (specification admitted) [] (F.offset None) (state w out.old) }
+// The type, and the number behind types 4 and 5, put at a place. Answers the place behind them.
+pub fn put_offset(out: &mut [u8], at: usize, offset: OffsetSpecification) -> usize
+    ensures { holds out.new result ≡ put_offset offset (holds out.old at) }
 {
-    if w.refused != 0 {
-        return w;
+    match offset {
+        OffsetSpecification::None => put_type(out, at, 0),
+        OffsetSpecification::First => put_type(out, at, 1),
+        OffsetSpecification::Last => put_type(out, at, 2),
+        OffsetSpecification::Next => put_type(out, at, 3),
+        OffsetSpecification::Offset(x) => put_numbered(out, at, 4, x),
+        OffsetSpecification::Timestamp(z) => put_numbered(out, at, 5, wire::unsigned64(z)),
     }
-    if w.putting {
-        return write_type(w, out, 0);
-    }
-    if admitted {
-        return write_type(w, out, 0);
-    }
-    w.refuse(refusal::VALUE_NOT_ADMITTED)
 }
 
-fn write_position(w: Writer, out: &mut [u8], x: u64) -> Writer
-    ensures { state result out.new ≡ step_field (specification false) [] (F.offset (Offset x)) (state w out.old) }
+fn put_type(out: &mut [u8], at: usize, kind: u64) -> usize
+    ensures { holds out.new result ≡ behind (digits 2 kind) (holds out.old at) }
 {
-    write_numbered(w, out, 4, x)
-}
-
-fn write_timestamp(w: Writer, out: &mut [u8], z: i64) -> Writer
-    ensures { state result out.new ≡ step_field (specification false) [] (F.offset (Timestamp z)) (state w out.old) }
-{
-    write_numbered(w, out, 5, wire::unsigned64(z))
-}
-
-// A type with nothing behind it.
-fn write_type(w: Writer, out: &mut [u8], kind: u64) -> Writer
-    ensures { state result out.new ≡ step (wrote (digits 2 kind)) (behind (digits 2 kind)) (state w out.old) }
-{
-    if w.refused != 0 {
-        return w;
-    }
-    if !w.putting {
-        return w.count(2);
-    }
-    let at = w.at;
-    Writer::at_place(wire::put_number(out, at, Width::Two, kind))
+    wire::put_number(out, at, Width::Two, kind)
 }
 
 // A type and eight bytes.
-fn write_numbered(w: Writer, out: &mut [u8], kind: u64, value: u64) -> Writer
-    ensures { state result out.new ≡ step (wrote (digits 2 kind ++ digits 8 value)) (λ h. behind (digits 8 value) (behind (digits 2 kind) h)) (state w out.old) }
+fn put_numbered(out: &mut [u8], at: usize, kind: u64, value: u64) -> usize
+    ensures { holds out.new result ≡ behind (digits 8 value) (behind (digits 2 kind) (holds out.old at)) }
 {
-    if w.refused != 0 {
-        return w;
-    }
-    if !w.putting {
-        return w.count(10);
-    }
-    let at = w.at;
-    let next = wire::put_number(out, at, Width::Two, kind);
-    Writer::at_place(wire::put_number(out, next, Width::Eight, value))
+    let next = put_type(out, at, kind);
+    wire::put_number(out, next, Width::Eight, value)
 }

@@ -8,7 +8,5 @@ use protocol::Place;
 pub fn is_outside(src: &[u8], place: Place) -> bool
     ensures { result ≡ outside place src.now }
 {
-    let at = place.at;
-    let len = place.len;
-    !wire::has_room(src.len(), at, len)
+    !wire::has_room(src.len(), place.at, place.len)
 }

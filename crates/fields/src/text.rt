@@ -1,71 +1,53 @@
-// Byte strings written: text T, references R and bytes B, and those that may be null.
-ghost use Rattle.std.specs.Prelude.{[], ◌≡◌, true, false};
-ghost use Rattle.std.proofs.Math.Option.{some};
+// Byte strings measured and put: text T, references R and bytes B, and those that may be null.
+ghost use Rattle.std.specs.Prelude.{◌≡◌, true, false};
+ghost use Rattle.wire.specs.Buffer.{holds};
 ghost use Rattle.protocol.specs.Frames.{nullable_field, place_field};
-ghost use Rattle.protocol.specs.Kinds as K;
-ghost use Rattle.protocol.specs.declared.place.NullablePlace.TheVariants.{Null};
+ghost use Rattle.protocol.specs.Kinds.{length_width};
 ghost use Rattle.rules.specs.Writing.{write_string};
-ghost use Rattle.fields.specs.Writer.{state, measured, step_field};
+ghost use Rattle.fields.specs.Passes.{length_told, measured, put_string};
 
-use crate::writer::Writer;
-use byte_strings::{length_width, minus_one, string_refusal};
-use protocol::{Form, NullablePlace, Place};
+use byte_strings::{check_string, length_width, minus_one};
+use protocol::{Form, Place, Refusal};
 
-// T?, R? and B?. Null is length -1, and has no place to look at.
-pub fn write_nullable(
-    w: Writer,
-    src: &[u8],
-    out: &mut [u8],
-    form: Form,
-    value: NullablePlace,
-) -> Writer
-    ensures { state result out.new ≡ step_field (K.string form true) src.now (nullable_field value) (state w out.old) }
+// The length of T?, R? and B?. Null is length -1, and has no place to look at.
+#[tactic(auto, using(crate::proofs::Encodings::digits_size), unfolding(rules::specs::Writing::write_string))]
+pub fn measure_nullable(src: &[u8], form: Form, value: Option<Place>) -> Result<usize, Refusal>
+    ensures { length_told result ≡ measured (write_string form true src.now (nullable_field value).octets) }
 {
     match value {
-        NullablePlace::Null => write_null(w, out, form),
-        NullablePlace::At(place) => write_string(w, src, out, form, place),
+        None => Ok(length_width(form).bytes()),
+        Some(place) => measure_string(src, form, place),
     }
 }
 
-// T, R and B.
-pub fn write_string(w: Writer, src: &[u8], out: &mut [u8], form: Form, place: Place) -> Writer
-    ensures { state result out.new ≡ step_field (K.string form false) src.now (place_field place) (state w out.old) }
+// The length of T, R and B.
+pub fn measure_string(src: &[u8], form: Form, place: Place) -> Result<usize, Refusal>
+    ensures { length_told result ≡ measured (write_string form false src.now (place_field place).octets) }
 {
-    if w.refused != 0 {
-        return w;
-    }
-    if !w.putting {
-        return measure_string(w, src, form, place);
-    }
-    let at = w.at;
-    let from = place.at;
-    let len = place.len;
-    let behind = wire::put_number(out, at, length_width(form), len as u64);
-    Writer::at_place(wire::put_bytes(out, behind, src, from, len))
+    check_string(src, place.at, place.len, form)?;
+    Ok(length_width(form).bytes() + place.len)
 }
 
-fn measure_string(w: Writer, src: &[u8], form: Form, place: Place) -> Writer
-    ensures { result ≡ measured (write_string form false src.now (some place)) w.at }
+// T?, R? and B?, put at a place. Answers the place behind it.
+pub fn put_nullable(
+    out: &mut [u8],
+    at: usize,
+    src: &[u8],
+    form: Form,
+    value: Option<Place>,
+) -> usize
+    ensures { holds out.new result ≡ put_string (length_width form) src.now (nullable_field value).octets (holds out.old at) }
 {
-    let at = place.at;
-    let len = place.len;
-    let number = string_refusal(src, at, len, form);
-    if number != 0 {
-        return w.refuse(number);
+    match value {
+        None => wire::put_number(out, at, length_width(form), minus_one(form)),
+        Some(place) => put_string(out, at, src, form, place),
     }
-    w.count(length_width(form).bytes() + len)
 }
 
-fn write_null(w: Writer, out: &mut [u8], form: Form) -> Writer
-    ensures { state result out.new ≡ step_field (K.string form true) [] (nullable_field Null) (state w out.old) }
+// T, R and B, put at a place.
+pub fn put_string(out: &mut [u8], at: usize, src: &[u8], form: Form, place: Place) -> usize
+    ensures { holds out.new result ≡ put_string (length_width form) src.now (place_field place).octets (holds out.old at) }
 {
-    if w.refused != 0 {
-        return w;
-    }
-    let width = length_width(form);
-    if !w.putting {
-        return w.count(width.bytes());
-    }
-    let at = w.at;
-    Writer::at_place(wire::put_number(out, at, width, minus_one(form)))
+    let next = wire::put_number(out, at, length_width(form), place.len as u64);
+    wire::put_bytes(out, next, src, place.at, place.len)
 }

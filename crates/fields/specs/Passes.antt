@@ -1,43 +1,46 @@
--- A writer goes over a frame's fields twice. While it measures, it checks each field, adds up their lengths and leaves the
--- output as it is. While it puts, it puts each field's bytes behind those of the field before, and checks nothing again
--- but that there is room, and that a place lies within the source. A writer that is refused does nothing more.
-use Rattle.std.specs.Prelude.{Bool, true, false, cond, List, [], ◌∷◌, ℕ, ◌+◌, ◌-◌, ◌^◌, eqb, ltb, length}
+-- A frame's fields are gone through twice. First each is measured: it is checked, and its length is counted. Then each is put behind
+-- the one before, and nothing is checked again but that there is room, and that a place lies within the source.
+use Rattle.std.specs.Prelude.{cond, List, [], ◌∷◌, ℕ, ◌+◌, ◌-◌, ◌^◌, ltb, Result, Ok, Err, length as len}
 use Rattle.std.proofs.Math.Option.{Option, none, some}
-use Rattle.wire.specs.Buffer.{Holds, holds, put, copied}
+use Rattle.wire.specs.Buffer.{Holds, put, copied}
 use Rattle.wire.specs.Integers.{digits}
 use Rattle.wire.specs.Signed as two's
 use Rattle.protocol.specs.Fields.{Field}
 use Rattle.protocol.specs.Kinds.{length_width, Kind, unsigned, signed, string, specification, list, chunk, Row, end, ◌·◌}
+use Rattle.protocol.specs.Refusals.{number_of}
 use Rattle.protocol.specs.declared.chunk.ChunkHeader.{ChunkHeader}
 use Rattle.protocol.specs.declared.offset.OffsetSpecification.{OffsetSpecification}
 use Rattle.protocol.specs.declared.offset.OffsetSpecification.TheVariants.{None, First, Last, Next, Offset, Timestamp}
 use Rattle.protocol.specs.declared.place.Place.{Place}
-use Rattle.rules.specs.Writing.{Encoding, wrote, refuse, place_of, write_field}
-use Rattle.fields.specs.declared.writer.Writer.{Writer}
+use Rattle.protocol.specs.declared.refusal.Refusal.{Refusal}
+use Rattle.rules.specs.Writing.{Encoding, wrote, refuse, Written, length, refusal, place_of}
 
-abbrev pub writer : ℕ → ℕ → Bool → Writer
-writer a n p = record { at = a; refused = n; putting = p }
+-- ---- Measuring
 
--- A length that is measured counts up to a bound far above that of any frame, since places may lie over one another and
--- their lengths have no bound.
+-- What the code answers: a length, or a refusal with its number.
+abbrev pub length_told : Result ℕ Refusal → Written
+length_told (Ok n) = length n
+length_told (Err r) = refusal (number_of r)
+
+-- What measuring says of a field.
+abbrev pub measured : Encoding → Written
+measured (wrote b) = length (len b)
+measured (refuse n) = refusal n
+
+-- Places may lie over one another, so the lengths of a frame's fields have no bound; their sum counts up to one that is far above
+-- the length of any frame.
 abbrev pub bound : ℕ
-bound = 0x2_0000_0000
+bound = 0xffff_ffff_ffff_ffff
 
 unfoldable pub capped : ℕ → ℕ
 capped n = cond (ltb bound n) bound n
 
--- A writer, and what the output holds.
-pub record State : Type 0 where
-  pub by : Writer
-  pub out : List ℕ
+-- What it says of fields that stand behind so many bytes.
+abbrev pub measured_from : ℕ → Encoding → Written
+measured_from at (wrote b) = length (capped (at + len b))
+measured_from at (refuse n) = refusal n
 
-abbrev pub state : Writer → List ℕ → State
-state w out = record { by = w; out = out }
-
--- The writer behind a field that it measured, with so many bytes in front of it.
-abbrev pub measured : Encoding → ℕ → Writer
-measured (wrote b) at = writer (capped (at + length b)) 0 false
-measured (refuse n) at = writer at n false
+-- ---- How each kind of field is put
 
 -- Bytes put behind what stands in a buffer.
 abbrev pub behind : List ℕ → Holds → Holds
@@ -46,19 +49,6 @@ behind b h = put h.bytes h.next b
 -- The bytes at a place of the source.
 abbrev pub copied_behind : List ℕ → Place → Holds → Holds
 copied_behind src p h = copied h.bytes h.next src p.at p.len
-
--- The state behind bytes that were put.
-abbrev pub stood : Holds → State
-stood h = state (writer h.next 0 true) h.bytes
-
--- One step over whatever has an encoding, and a way of being put.
-unfoldable pub step : Encoding → (Holds → Holds) → State → State
-step e puts s =
-    cond (eqb s.by.refused 0)
-    (cond s.by.putting (stood (puts (holds s.out s.by.at))) (state (measured e s.by.at) s.out))
-    s
-
--- ---- How each kind of field is put
 
 abbrev pub put_offset : OffsetSpecification → Holds → Holds
 put_offset None h = behind (digits 2 0) h
@@ -89,20 +79,19 @@ abbrev pub put_string : ℕ → List ℕ → Option Place → Holds → Holds
 put_string n src none h = behind (digits n (256 ^ n - 1)) h
 put_string n src (some p) h = copied_behind src p (behind (digits n p.len) h)
 
+abbrev pub put_list : List ℕ → ℕ → Place → Holds → Holds
+put_list src n p h = copied_behind src p (behind (digits 4 n) h)
+
 abbrev pub put_field : Kind → List ℕ → Field Place → Holds → Holds
 put_field (unsigned n most) src f h = behind (digits n f.number) h
 put_field (signed n) src f h = behind (digits n (two's.unsigned n f.integer)) h
 put_field (string form nullable) src f h = put_string (length_width form) src f.octets h
 put_field (specification admits_none) src f h = put_offset f.offset h
-put_field (list rule row) src f h = copied_behind src (place_of f.octets) (behind (digits 4 f.number) h)
+put_field (list rule row) src f h = put_list src f.number (place_of f.octets) h
 put_field chunk src f h = copied_behind src (place_of f.octets) (put_header f.header h)
 
--- ---- What a writer does with a field, and with a row of fields in wire order
-
-abbrev pub step_field : Kind → List ℕ → Field Place → State → State
-step_field kind src f s = step (write_field kind src f) (put_field kind src f) s
-
-unfoldable pub step_row : Row → List ℕ → List (Field Place) → State → State
-step_row end src fs s = s
-step_row (kind · row) src [] s = s
-step_row (kind · row) src (f ∷ fs) s = step_row row src fs (step_field kind src f s)
+-- A row of fields in wire order.
+unfoldable pub put_row : Row → List ℕ → List (Field Place) → Holds → Holds
+put_row end src fs h = h
+put_row (kind · row) src [] h = h
+put_row (kind · row) src (f ∷ fs) h = put_row row src fs (put_field kind src f h)
