@@ -1,6 +1,5 @@
 -- The refusal numbers (01 "Refusal numbers").
-use Rattle.std.specs.Prelude.{ℕ, Ok, Err}
-use Rattle.std.specs.declared.result.Result.{Result}
+use Rattle.std.specs.Prelude.{ℕ, Result, Ok, Err}
 use Rattle.protocol.specs.declared.refusal.Refusal.{Refusal}
 use Rattle.protocol.specs.declared.refusal.Refusal.TheVariants.{Short, FrameTooLarge, FrameTooSmall, UnknownKey, UnknownVersion, FieldCut, BadLength, NotUtf8, ReferenceTooLong, ValueNotAdmitted, BytesLeft, NoRoom, NotOpen, AlreadyOpen, NoCredit, OverLimit, NotOut}
 
@@ -75,7 +74,7 @@ number_of NoCredit = no_credit
 number_of OverLimit = over_limit
 number_of NotOut = not_out
 
--- The number that a call answers: 0 where it is not refused.
+-- The number with which a call is refused; 0 where it is not.
 abbrev pub number_in : {A : Type 0} → Result A Refusal → ℕ
 number_in (Ok a) = 0
-number_in (Err r) = number_of r
+number_in (Err refusal) = number_of refusal
