@@ -13,7 +13,7 @@ use crate::number::number_end;
 use crate::writer::Writer;
 use byte_strings::Stop;
 use protocol::{OffsetSpecification, refusal};
-use wire::Width;
+use wire::{Unsigned, Width};
 
 // Two bytes (6), type (10), and eight more bytes for types 4 and 5 (6). Type 0 is admitted in ConsumerUpdate's response only.
 pub fn specification_end(s: &[u8], at: usize, admits_none: bool) -> Stop
@@ -79,7 +79,7 @@ fn write_position(w: Writer, out: &mut [u8], x: u64) -> Writer
 fn write_timestamp(w: Writer, out: &mut [u8], z: i64) -> Writer
     ensures { state result out.new ≡ step_field (specification false) [] (F.offset (Timestamp z)) (state w out.old) }
 {
-    write_numbered(w, out, 5, wire::unsigned64(z))
+    write_numbered(w, out, 5, u64::unsigned(z))
 }
 
 // A type with nothing behind it.

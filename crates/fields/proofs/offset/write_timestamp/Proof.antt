@@ -15,4 +15,4 @@ write_timestamp_spec =
     (λ c κs. search rules)
     (λ c κs. search rules)
     (λ c. search rules)
-    (λ c. timestamp_bits _ _ _ _ (signed_fits w64 8 _ refl c.before.before.before.before.before.before.ranges.z) (c.before.before.before.unsigned64.ensures ∙ ap (unsigned 8) (to_z-of_z c.before.before.before.before.before.before.ranges.z)) c.before.before.write_numbered.ensures))
+    (λ c. timestamp_bits _ _ _ _ (signed_fits w64 8 _ refl c.before.before.before.before.before.before.ranges.z) (c.before.before.before.unsigned.ensures ∙ ap (unsigned 8) (to_z-of_z c.before.before.before.before.before.before.ranges.z)) c.before.before.write_numbered.ensures))
