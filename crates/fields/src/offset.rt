@@ -10,7 +10,7 @@ ghost use Rattle.fields.specs.Passes.{length_told, measured, behind, put_offset}
 use crate::number::number_end;
 use byte_strings::Fault;
 use protocol::{OffsetSpecification, Refusal};
-use wire::Width;
+use wire::{Unsigned, Width};
 
 // Two bytes (6), type (10), and eight more bytes for types 4 and 5 (6). Type 0 is admitted in ConsumerUpdate's response only.
 pub fn specification_end(s: &[u8], at: usize, admits_none: bool) -> Result<usize, Fault>
@@ -68,7 +68,7 @@ pub fn put_offset(out: &mut [u8], at: usize, offset: OffsetSpecification) -> usi
         OffsetSpecification::Last => put_type(out, at, 2),
         OffsetSpecification::Next => put_type(out, at, 3),
         OffsetSpecification::Offset(x) => put_numbered(out, at, 4, x),
-        OffsetSpecification::Timestamp(z) => put_numbered(out, at, 5, wire::unsigned64(z)),
+        OffsetSpecification::Timestamp(z) => put_numbered(out, at, 5, u64::unsigned(z)),
     }
 }
 

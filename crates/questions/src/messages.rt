@@ -11,6 +11,7 @@ use chunks::{entries_end, entry_end, has_entries};
 use fields::is_outside;
 use parts::part;
 use protocol::{Chunk, Place, refusal};
+use wire::Unsigned;
 
 // The place that was asked for; or the refusal's number.
 #[derive(Clone, Copy)]
@@ -63,7 +64,7 @@ fn message_in(s: &[u8], chunk: Chunk, index: usize) -> AskedPlace
 {
     let header = chunk.header;
     let data = chunk.data;
-    let kind = wire::unsigned8(header.chunk_type) as u64;
+    let kind = u8::unsigned(header.chunk_type) as u64;
     message_place(s, kind, header.entries, data, index)
 }
 

@@ -13,6 +13,7 @@ use protocol::{
     Chunk, ChunkHeader, Elements, NullablePlace, OffsetSpecification, Place, ResponseCode,
 };
 use slots::{list_of, nullable_of, offset_of, place_of};
+use wire::Unsigned;
 
 // The slot of the content's first field: key and version stand before it.
 pub const CONTENT: usize = 2;
@@ -102,14 +103,14 @@ fn take_header(slots: &[u64], at: &mut usize) -> ChunkHeader
     ensures { Taken 12 slots.now at.old at.new (λ l. result ≡ typed_header l) }
 {
     ChunkHeader {
-        magic: wire::signed8(take_u8(slots, at)),
-        chunk_type: wire::signed8(take_u8(slots, at)),
+        magic: take_u8(slots, at).signed(),
+        chunk_type: take_u8(slots, at).signed(),
         entries: take_u16(slots, at),
         records: take_u32(slots, at),
-        timestamp: wire::signed64(take_u64(slots, at)),
+        timestamp: take_u64(slots, at).signed(),
         epoch: take_u64(slots, at),
         first_offset: take_u64(slots, at),
-        checksum: wire::signed32(take_u32(slots, at)),
+        checksum: take_u32(slots, at).signed(),
         data_length: take_u32(slots, at),
         trailer_length: take_u32(slots, at),
         bloom_size: take_u8(slots, at),

@@ -8,6 +8,7 @@ ghost use Rattle.slots.specs.Unflat.{unflat_octets, unflat_offset};
 
 use crate::to_slots::NULL_LENGTH;
 use protocol::{Elements, NullablePlace, OffsetSpecification, Place};
+use wire::Unsigned;
 
 pub fn place_of(at: u64, len: u64) -> Place
     ensures { result ≡ F.place at len }
@@ -56,6 +57,6 @@ pub fn offset_of(kind: u64, value: u64) -> OffsetSpecification
 fn timestamp_of(value: u64) -> OffsetSpecification
     ensures { result ≡ Timestamp (signed 8 value) }
 {
-    let z = wire::signed64(value);
+    let z = value.signed();
     OffsetSpecification::Timestamp(z)
 }

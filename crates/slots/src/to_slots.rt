@@ -8,6 +8,7 @@ ghost use Rattle.slots.specs.Inverse.{SignedHeader, SignedOffset};
 ghost use Rattle.slots.specs.Unflat.{slots_for};
 
 use protocol::{ChunkHeader, FieldKind, NullablePlace, OffsetSpecification, Place};
+use wire::Unsigned;
 
 #[derive(Clone, Copy)]
 pub struct FlatOffset {
@@ -108,7 +109,7 @@ pub fn flat_offset(s: OffsetSpecification) -> FlatOffset
         },
         OffsetSpecification::Timestamp(timestamp) => FlatOffset {
             kind: 5,
-            value: wire::unsigned64(timestamp),
+            value: u64::unsigned(timestamp),
         },
     }
 }
@@ -120,7 +121,7 @@ pub fn flat_chunk(header: ChunkHeader, data: Place) -> [u64; 14]
 {
     let magic = bits8(header.magic);
     let chunk_type = bits8(header.chunk_type);
-    let timestamp = wire::unsigned64(header.timestamp);
+    let timestamp = u64::unsigned(header.timestamp);
     let checksum = bits32(header.checksum);
     [
         magic,
@@ -143,26 +144,26 @@ pub fn flat_chunk(header: ChunkHeader, data: Place) -> [u64; 14]
 fn bits8(x: i8) -> u64
     ensures { result ≡ bits x }
 {
-    wire::unsigned64(x as i64)
+    u64::unsigned(x as i64)
 }
 
 fn bits32(x: i32) -> u64
     ensures { result ≡ bits x }
 {
-    wire::unsigned64(x as i64)
+    u64::unsigned(x as i64)
 }
 
 // A signed number of one byte, and of four, as its 64 bits.
 pub fn widened8(x: u8) -> u64
     ensures { result ≡ bits (signed 1 x) }
 {
-    bits8(wire::signed8(x))
+    bits8(x.signed())
 }
 
 pub fn widened32(x: u32) -> u64
     ensures { result ≡ bits (signed 4 x) }
 {
-    bits32(wire::signed32(x))
+    bits32(x.signed())
 }
 
 // The slots of a message: its place.

@@ -2,7 +2,7 @@
 ghost use Rattle.std.specs.Prelude.{◌≡◌};
 ghost use Rattle.test_ledgers.specs.Words.{word_of, first_word, after_space};
 
-use wire::{Number, Width};
+use wire::Width;
 
 #[derive(Clone, Copy)]
 pub enum Word {
@@ -24,8 +24,8 @@ pub fn first_word(line: &[u8]) -> Word
     ensures { result ≡ first_word line.now }
 {
     match wire::number_at(line, 0, Width::Four) {
-        Number::Value(letters) => word_of(letters),
-        Number::Cut => Word::Unknown,
+        Some(letters) => word_of(letters),
+        None => Word::Unknown,
     }
 }
 

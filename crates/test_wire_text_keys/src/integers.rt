@@ -1,5 +1,5 @@
 // Integers at the edges of their widths, read and written, unsigned and signed.
-use wire::{Number, Width};
+use wire::{Unsigned, Width};
 
 const STANDARD_OUTPUT: i32 = 1;
 
@@ -64,8 +64,8 @@ fn writes(x: u64) {
 
 fn reading(at: usize, width: Width) {
     match wire::number_at(&BYTES, at, width) {
-        Number::Value(v) => test_text::decimal(v),
-        Number::Cut => test_text::word(b" cut"),
+        Some(v) => test_text::decimal(v),
+        None => test_text::word(b" cut"),
     };
 }
 
@@ -90,15 +90,15 @@ fn byte(b: u8) {
 
 // There and back through the signed types: the bits as they were, and whether the number is below 0.
 fn signs(x: u64) {
-    let a = wire::signed8((x % 256) as u8);
+    let a = ((x % 256) as u8).signed();
     sign(a < 0);
-    test_text::decimal(wire::unsigned8(a) as u64);
-    let b = wire::signed32((x % 4294967296) as u32);
+    test_text::decimal(u8::unsigned(a) as u64);
+    let b = ((x % 4294967296) as u32).signed();
     sign(b < 0);
-    test_text::decimal(wire::unsigned32(b) as u64);
-    let c = wire::signed64(x);
+    test_text::decimal(u32::unsigned(b) as u64);
+    let c = x.signed();
     sign(c < 0);
-    test_text::decimal(wire::unsigned64(c));
+    test_text::decimal(u64::unsigned(c));
 }
 
 fn sign(below: bool) {

@@ -11,7 +11,7 @@ use borrow.Author.Tests.{le-leb, lt-leb, leb-true, leb-false}
 use lib.Dec.{leb}
 use lib.Seq.{get_or-append-add, take-suc, get_or-drop, get_or-take, get_or_at}
 use Rattle.wire.specs.Integers.{Bytes, big_endian, digits, number_at, number_or_zero, Law}
-use Rattle.wire.specs.declared.integers.Number.TheVariants.{Value, Cut}
+use Rattle.std.specs.Prelude.{Some, None}
 
 size : (n x : ℕ) → length (digits n x) ≡ n
 unfolding digits
@@ -91,11 +91,11 @@ join m (suc n) s at =
 
 -- A number that is there, and one that is cut.
 module _ (n : ℕ) (s : List ℕ) (at : ℕ) where
-  there : at + n ≤ length s → number_at n s at ≡ Value (big_endian n s at)
+  there : at + n ≤ length s → number_at n s at ≡ Some (big_endian n s at)
   unfolding number_at
   there h = rw (le-leb _ _ h)
 
-  cut : length s < at + n → number_at n s at ≡ Cut
+  cut : length s < at + n → number_at n s at ≡ None
   unfolding number_at
   cut h = rw (lt-leb _ _ h)
 
@@ -108,14 +108,14 @@ module _ (n : ℕ) (s : List ℕ) (at : ℕ) where
   or_zero_cut h = rw (lt-leb _ _ h)
 
   -- What the answer tells.
-  pub is_there : (v : ℕ) → Value v ≡ number_at n s at → (at + n ≤ length s) × (v ≡ big_endian n s at)
+  pub is_there : (v : ℕ) → Some v ≡ number_at n s at → (at + n ≤ length s) × (v ≡ big_endian n s at)
   is_there v e = by (leb (at + n) (length s)) refl
     where
       by : (t : Bool) → leb (at + n) (length s) ≡ t → (at + n ≤ length s) × (v ≡ big_endian n s at)
       by true f = let h = leb-true _ _ f in let g = there h in (h, cc)
       by false f = let g = cut (leb-false _ _ f) in absurd (let z : ◌≡◌ {A = ℕ} 0 1 = cc in omega arith)
 
-  pub is_cut : Cut ≡ number_at n s at → length s < at + n
+  pub is_cut : None ≡ number_at n s at → length s < at + n
   is_cut e = by (leb (at + n) (length s)) refl
     where
       by : (t : Bool) → leb (at + n) (length s) ≡ t → length s < at + n

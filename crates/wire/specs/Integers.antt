@@ -1,7 +1,6 @@
 -- Big-endian unsigned integers (01 "Numbers and text on the wire": all integers are big endian).
-use Rattle.std.specs.Prelude.{◌≡◌, cond, List, [], ◌∷◌, ◌++◌, ℕ, zero, suc, ◌+◌, ◌*◌, ◌/◌, ◌%◌, ◌^◌, ◌<◌, ◌≤◌, leb, length, get_or, take, drop}
-use Rattle.wire.specs.declared.integers.Number.{Number}
-use Rattle.wire.specs.declared.integers.Number.TheVariants.{Value, Cut}
+use Rattle.std.specs.Prelude.{◌≡◌, cond, List, [], ◌∷◌, ◌++◌, ℕ, zero, suc, ◌+◌, ◌*◌, ◌/◌, ◌%◌, ◌^◌, ◌<◌, ◌≤◌, leb, length, get_or, take, drop, Some, None}
+use Rattle.std.specs.declared.option.Option.{Option}
 use Rattle.wire.specs.declared.integers.Width.{Width}
 use Rattle.wire.specs.declared.integers.Width.TheVariants.{One, Two, Three, Four, Eight}
 
@@ -28,8 +27,8 @@ width_of Four = 4
 width_of Eight = 8
 
 -- The number of n bytes at a place, if they are all there.
-unfoldable pub number_at : ℕ → List ℕ → ℕ → Number
-number_at n s at = cond (leb (at + n) (length s)) (Value (big_endian n s at)) Cut
+unfoldable pub number_at : ℕ → List ℕ → ℕ → Option ℕ
+number_at n s at = cond (leb (at + n) (length s)) (Some (big_endian n s at)) None
 
 -- The same; 0 where they are not.
 unfoldable pub number_or_zero : ℕ → List ℕ → ℕ → ℕ

@@ -6,20 +6,13 @@ ghost use Rattle.wire.specs.Buffer.{splice, put, holds};
 use crate::room::has_room;
 
 // How many bytes an integer takes.
-#[derive(Clone, Copy)]
+#[derive(Clone, Copy, Debug, PartialEq, Eq)]
 pub enum Width {
     One,
     Two,
     Three,
     Four,
     Eight,
-}
-
-// What stands at a place: a number, or nothing, where the slice ends before the number does.
-#[derive(Clone, Copy)]
-pub enum Number {
-    Value(u64),
-    Cut,
 }
 
 impl Width {
@@ -36,24 +29,28 @@ impl Width {
     }
 }
 
-// The number whose bytes start at a place of s.
-pub fn number_at(s: &[u8], at: usize, width: Width) -> Number
+// The number whose bytes start at a place of s; none where the slice ends before the number does.
+#[tactic(auto, unfolding(crate::specs::Integers::number_at))]
+pub fn number_at(s: &[u8], at: usize, width: Width) -> Option<u64>
     ensures { result ≡ number_at (width_of width) s.now at }
 {
-    if !has_room(s.len(), at, width.bytes()) {
-        return Number::Cut;
+    if has_room(s.len(), at, width.bytes()) {
+        Some(number_there(s, at, width))
+    } else {
+        None
     }
-    Number::Value(number_there(s, at, width))
 }
 
 // The same; 0 where the slice ends before the number does.
+#[tactic(auto, unfolding(crate::specs::Integers::number_or_zero))]
 pub fn number_or_zero(s: &[u8], at: usize, width: Width) -> u64
     ensures { result ≡ number_or_zero (width_of width) s.now at }
 {
-    if !has_room(s.len(), at, width.bytes()) {
-        return 0;
+    if has_room(s.len(), at, width.bytes()) {
+        number_there(s, at, width)
+    } else {
+        0
     }
-    number_there(s, at, width)
 }
 
 // Puts the low bytes of v, as many as the width has, at a place of out, and answers the place behind them.

@@ -8,6 +8,6 @@ mod room;
 mod signed;
 
 pub use buffer::put_bytes;
-pub use integers::{Number, Width, number_at, number_or_zero, put_number};
+pub use integers::{Width, number_at, number_or_zero, put_number};
 pub use room::has_room;
-pub use signed::{signed8, signed32, signed64, unsigned8, unsigned32, unsigned64};
+pub use signed::Unsigned;

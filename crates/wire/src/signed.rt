@@ -1,63 +1,101 @@
-// Signed integers of 8, 32 and 64 bits: two's complement, both ways, no bit lost.
-ghost use Rattle.std.specs.Prelude.{◌≡◌};
-ghost use Rattle.wire.specs.Signed.{signed, unsigned};
+// Signed integers: two's complement, both ways, no bit lost.
+ghost use Rattle.std.specs.Prelude.{◌≡◌, ℕ, ℤ};
+ghost use Rattle.wire.specs.Signed.{signed, unsigned, SignedLaw};
+ghost use Rattle.wire.specs.SignedLaws.{twos_complement};
 
-pub fn signed8(x: u8) -> i8
-    ensures { result ≡ signed 1 x }
-{
-    if x < 0x80 {
-        x as i8
-    } else {
-        -1 - ((0xff - x) as i8)
+// An unsigned integer, and the signed one of as many bits.
+pub trait Unsigned {
+    type Signed;
+
+    // How many bytes both have, and their values.
+    ghost bytes: { ℕ };
+
+    ghost number: { Self → ℕ };
+
+    ghost integer: { Self.Signed → ℤ };
+
+    // The integer of the same bits.
+    fn signed(self) -> Self::Signed
+        ensures { integer result ≡ signed bytes (number self) };
+
+    // The bits of an integer.
+    fn unsigned(x: Self::Signed) -> Self
+        ensures { number result ≡ unsigned bytes (integer x) };
+
+    ghost law: { SignedLaw bytes };
+}
+
+#[tactic(auto, unfolding(crate::specs::Signed::signed, crate::specs::Signed::unsigned))]
+impl Unsigned for u8 {
+    type Signed = i8;
+
+    ghost bytes = { 1 };
+
+    ghost number = { λ x. x };
+
+    ghost integer = { λ x. x };
+
+    ghost law = { twos_complement 0 };
+
+    fn signed(self) -> i8
+        ensures { result ≡ signed 1 self }
+    {
+        self.cast_signed()
+    }
+
+    fn unsigned(x: i8) -> u8
+        ensures { result ≡ unsigned 1 x }
+    {
+        i8::cast_unsigned(x)
     }
 }
 
-pub fn signed32(x: u32) -> i32
-    ensures { result ≡ signed 4 x }
-{
-    if x < 0x8000_0000 {
-        x as i32
-    } else {
-        -1 - ((0xffff_ffff - x) as i32)
+#[tactic(auto, unfolding(crate::specs::Signed::signed, crate::specs::Signed::unsigned))]
+impl Unsigned for u32 {
+    type Signed = i32;
+
+    ghost bytes = { 4 };
+
+    ghost number = { λ x. x };
+
+    ghost integer = { λ x. x };
+
+    ghost law = { twos_complement 3 };
+
+    fn signed(self) -> i32
+        ensures { result ≡ signed 4 self }
+    {
+        self.cast_signed()
+    }
+
+    fn unsigned(x: i32) -> u32
+        ensures { result ≡ unsigned 4 x }
+    {
+        i32::cast_unsigned(x)
     }
 }
 
-pub fn signed64(x: u64) -> i64
-    ensures { result ≡ signed 8 x }
-{
-    if x < 0x8000_0000_0000_0000 {
-        x as i64
-    } else {
-        -1 - ((0xffff_ffff_ffff_ffff - x) as i64)
-    }
-}
+#[tactic(auto, unfolding(crate::specs::Signed::signed, crate::specs::Signed::unsigned))]
+impl Unsigned for u64 {
+    type Signed = i64;
 
-pub fn unsigned8(x: i8) -> u8
-    ensures { result ≡ unsigned 1 x }
-{
-    if x < 0 {
-        0xff - ((-1 - x) as u8)
-    } else {
-        x as u8
-    }
-}
+    ghost bytes = { 8 };
 
-pub fn unsigned32(x: i32) -> u32
-    ensures { result ≡ unsigned 4 x }
-{
-    if x < 0 {
-        0xffff_ffff - ((-1 - x) as u32)
-    } else {
-        x as u32
-    }
-}
+    ghost number = { λ x. x };
 
-pub fn unsigned64(x: i64) -> u64
-    ensures { result ≡ unsigned 8 x }
-{
-    if x < 0 {
-        0xffff_ffff_ffff_ffff - ((-1 - x) as u64)
-    } else {
-        x as u64
+    ghost integer = { λ x. x };
+
+    ghost law = { twos_complement 7 };
+
+    fn signed(self) -> i64
+        ensures { result ≡ signed 8 self }
+    {
+        self.cast_signed()
+    }
+
+    fn unsigned(x: i64) -> u64
+        ensures { result ≡ unsigned 8 x }
+    {
+        i64::cast_unsigned(x)
     }
 }

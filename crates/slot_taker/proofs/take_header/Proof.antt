@@ -72,14 +72,14 @@ take_header_spec =
     let s10 = next 9 l _ _ s9 c.before.before.before.before.take_u32-4.ensures.1 in
     let s11 = next 10 l _ _ s10 c.before.before.take_u8-3.ensures.1 in (
       header_typed l _ _ _ _ _ _ _ _ _ _ _ _
-          (to_z-of_z {w = w8} (sfits_of magic.signed8.type_inv) ∙ magic.signed8.ensures ∙ ap (two's.signed 1) magic.before.take_u8.ensures.0)
-          (to_z-of_z {w = w8} (sfits_of type.signed8-2.type_inv) ∙ type.signed8-2.ensures ∙ ap (two's.signed 1) (type.before.take_u8-2.ensures.0 ∙ ap (λ (x : ℕ). x % 256 ^ 1) (nth 1 l _ s1)))
+          (to_z-of_z {w = w8} (sfits_of magic.signed.type_inv) ∙ magic.signed.ensures ∙ ap (two's.signed 1) magic.before.take_u8.ensures.0)
+          (to_z-of_z {w = w8} (sfits_of type.signed-2.type_inv) ∙ type.signed-2.ensures ∙ ap (two's.signed 1) (type.before.take_u8-2.ensures.0 ∙ ap (λ (x : ℕ). x % 256 ^ 1) (nth 1 l _ s1)))
           (entries.take_u16.ensures.0 ∙ ap (λ (x : ℕ). x % 256 ^ 2) (nth 2 l _ s2))
           (timestamp.before.before.before.take_u32.ensures.0 ∙ ap (λ (x : ℕ). x % 256 ^ 4) (nth 3 l _ s3))
-          (to_z-of_z {w = w64} (sfits_of timestamp.signed64.type_inv) ∙ timestamp.signed64.ensures ∙ ap (two's.signed 8) (timestamp.before.take_u64.ensures.0 ∙ nth 4 l _ s4))
+          (to_z-of_z {w = w64} (sfits_of timestamp.signed-3.type_inv) ∙ timestamp.signed-3.ensures ∙ ap (two's.signed 8) (timestamp.before.take_u64.ensures.0 ∙ nth 4 l _ s4))
           (checksum.before.before.before.before.before.take_u64-2.ensures.0 ∙ nth 5 l _ s5)
           (checksum.before.before.before.take_u64-3.ensures.0 ∙ nth 6 l _ s6)
-          (to_z-of_z {w = w32} (sfits_of checksum.signed32.type_inv) ∙ checksum.signed32.ensures ∙ ap (two's.signed 4) (checksum.before.take_u32-2.ensures.0 ∙ ap (λ (x : ℕ). x % 256 ^ 4) (nth 7 l _ s7)))
+          (to_z-of_z {w = w32} (sfits_of checksum.signed-4.type_inv) ∙ checksum.signed-4.ensures ∙ ap (two's.signed 4) (checksum.before.take_u32-2.ensures.0 ∙ ap (λ (x : ℕ). x % 256 ^ 4) (nth 7 l _ s7)))
           (trailer.take_u32-3.ensures.0 ∙ ap (λ (x : ℕ). x % 256 ^ 4) (nth 8 l _ s8))
           (c.before.before.before.before.take_u32-4.ensures.0 ∙ ap (λ (x : ℕ). x % 256 ^ 4) (nth 9 l _ s9))
           (c.before.before.take_u8-3.ensures.0 ∙ ap (λ (x : ℕ). x % 256 ^ 1) (nth 10 l _ s10))

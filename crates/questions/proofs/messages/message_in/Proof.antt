@@ -27,6 +27,6 @@ message_in_spec =
     let a = c.before.before.before.before.before.before.args in
     let f = sfits_of c.before.before.struct_told-1.given.1.0.1 in
     let z = a.chunk.header.chunk_type in
-    let bits = c.before.unsigned8-kind.ensures ∙ ap (unsigned 1) (to_z-of_z {w = w8} f) in
+    let bits = c.before.unsigned-kind.ensures ∙ ap (unsigned 1) (to_z-of_z {w = w8} f) in
     let type = ap (signed 1) bits ∙ (twos_complement 0).signed_unsigned z (one_byte z f) in
     c.message_place.ensures 0 ∙ ap (λ (t : ℤ). message_of a.s.now t a.chunk.header.entries a.chunk.«data» a.index) type))

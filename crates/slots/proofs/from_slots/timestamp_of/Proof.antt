@@ -13,4 +13,4 @@ timestamp_of_spec =
     tie.close
     (tie.spec
     (λ c κs. search rules)
-    (λ c. ap Timestamp (to_z-of_z {w = w64} (sfits_of c.signed64-z.type_inv) ∙ c.signed64-z.ensures)))
+    (λ c. ap Timestamp (to_z-of_z {w = w64} (sfits_of c.signed-z.type_inv) ∙ c.signed-z.ensures)))

@@ -13,4 +13,4 @@ bits32_spec =
     (tie.spec
     (λ c. widens {w = w32} {z = c.args.x} tt c.ranges.x)
     (λ c κs. search rules)
-    (λ c. c.unsigned64.ensures ∙ ap bits (widened {w = w32} {z = c.before.args.x} tt c.before.ranges.x)))
+    (λ c. c.unsigned.ensures ∙ ap bits (widened {w = w32} {z = c.before.args.x} tt c.before.ranges.x)))

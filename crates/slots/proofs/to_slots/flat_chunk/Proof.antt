@@ -39,4 +39,4 @@ flat_chunk_spec =
     let t = sfits_of type.before.struct_told-2-1.given.1.0.1 in
     let s = sfits_of timestamp.before.struct_told-3-1.given.1.1.1.1.0.1 in
     let k = sfits_of checksum.before.struct_told-4-1.given.1.1.1.1.1.1.1.0.1 in
-    (header_slots magic.before.before.args.header magic.before.before.args.«data» _ _ _ _ (magic.bits8-magic.ensures ∙ ap bits (to_z-of_z {w = w8} m)) (type.bits8-chunk_type.ensures ∙ ap bits (to_z-of_z {w = w8} t)) (timestamp.unsigned64-timestamp.ensures ∙ ap bits (to_z-of_z {w = w64} s)) (checksum.bits32-checksum.ensures ∙ ap bits (to_z-of_z {w = w32} k)), record { magic = bits_64 {w = w8} tt m; type = bits_64 {w = w8} tt t; timestamp = bits_64 {w = w64} tt s; checksum = bits_64 {w = w32} tt k })))
+    (header_slots magic.before.before.args.header magic.before.before.args.«data» _ _ _ _ (magic.bits8-magic.ensures ∙ ap bits (to_z-of_z {w = w8} m)) (type.bits8-chunk_type.ensures ∙ ap bits (to_z-of_z {w = w8} t)) (timestamp.unsigned-timestamp.ensures ∙ ap bits (to_z-of_z {w = w64} s)) (checksum.bits32-checksum.ensures ∙ ap bits (to_z-of_z {w = w32} k)), record { magic = bits_64 {w = w8} tt m; type = bits_64 {w = w8} tt t; timestamp = bits_64 {w = w64} tt s; checksum = bits_64 {w = w32} tt k })))

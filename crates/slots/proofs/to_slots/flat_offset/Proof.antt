@@ -34,4 +34,4 @@ flat_offset_spec =
     (λ c. offset_slots _ _ _ _ refl tt c.in-Offset.is)
     (λ c.
     let z = sfits_of c.before.in-Timestamp.known_told-in-Timestamp-1-own.given.0.1 in
-    offset_slots _ _ _ _ (ap (λ (v : ℕ). 5 ∷ v ∷ []) (c.unsigned64.ensures ∙ ap bits (to_z-of_z {w = w64} z))) (bits_64 {w = w64} tt z) c.before.in-Timestamp.is))
+    offset_slots _ _ _ _ (ap (λ (v : ℕ). 5 ∷ v ∷ []) (c.unsigned.ensures ∙ ap bits (to_z-of_z {w = w64} z))) (bits_64 {w = w64} tt z) c.before.in-Timestamp.is))

@@ -14,4 +14,4 @@ widened32_spec =
     (tie.spec
     (λ c κs. search rules)
     (λ c κs. search rules)
-    (λ c. c.bits32.ensures ∙ ap bits (to_z-of_z {w = w32} (sfits_of c.before.signed32.type_inv) ∙ c.before.signed32.ensures)))
+    (λ c. c.bits32.ensures ∙ ap bits (to_z-of_z {w = w32} (sfits_of c.before.signed.type_inv) ∙ c.before.signed.ensures)))

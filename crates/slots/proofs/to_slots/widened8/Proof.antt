@@ -14,4 +14,4 @@ widened8_spec =
     (tie.spec
     (λ c κs. search rules)
     (λ c κs. search rules)
-    (λ c. c.bits8.ensures ∙ ap bits (to_z-of_z {w = w8} (sfits_of c.before.signed8.type_inv) ∙ c.before.signed8.ensures)))
+    (λ c. c.bits8.ensures ∙ ap bits (to_z-of_z {w = w8} (sfits_of c.before.signed.type_inv) ∙ c.before.signed.ensures)))
