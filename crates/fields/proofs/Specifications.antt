@@ -1,12 +1,11 @@
 -- An offset specification at a place: by its type, which says whether a number follows. Assumes nothing.
-use mathlib.Core.Path.{◌≡◌, refl, ◌∙◌, sym}
-use mathlib.Core.Bool.{Bool, true, false, not, ◌&&◌, false≢true}
+use mathlib.Core.Path.{◌≡◌, refl, ◌∙◌}
+use mathlib.Core.Bool.{Bool, true, false, false≢true}
 use mathlib.Core.List.{List}
 use Prim.Native.Nat.{ℕ, zero, suc, ◌+◌, ◌<◌, ◌≤◌}
 use native.Mathlib.Omega.{arith}
-use lib.Dec.{eqb}
 use lib.ListN.{length}
-use borrow.Author.Tests.{ne_eqb, eqb-true}
+use borrow.Author.Tests.{ne_eqb}
 use Rattle.wire.specs.Integers.{number_or_zero}
 use Rattle.wire.specs.Signed.{signed}
 use Rattle.wire.proofs.Widths.{or_zero_lem}
@@ -30,23 +29,18 @@ module _ (admits_none : Bool) (s : List ℕ) (at : ℕ) where
     unfolding read_specification
     typed = rw (number_there 2 s at there, e ∙ or_zero_lem 2 s at there)
 
-    pub none_refused : (eqb k 0 && not admits_none) ≡ true → read_specification admits_none s at ≡ refused value_not_admitted at
+    pub none_refused : k ≡ 0 → admits_none ≡ false → read_specification admits_none s at ≡ refused value_not_admitted at
     unfolding read_typed
-    none_refused h = by (eqb k 0) refl admits_none refl h
-      where
-        by : (z : Bool) → eqb k 0 ≡ z → (t : Bool) → admits_none ≡ t → (z && not t) ≡ true → read_specification admits_none s at ≡ refused value_not_admitted at
-        by true i true j h = absurd (false≢true h)
-        by true i false j h = rw (typed, eqb-true k 0 i, j)
-        by false i t j h = absurd (false≢true h)
+    none_refused i j = rw (typed, i, j)
 
     -- None, first, last and next have no number.
-    pub without_number : (eqb k 0 && not admits_none) ≡ false → k < 4 → (o : OffsetSpecification) × (read_specification admits_none s at ≡ got (F.offset o) (at + 2))
+    pub without_number : (k ≡ 0 → admits_none ≡ true) → k < 4 → (o : OffsetSpecification) × (read_specification admits_none s at ≡ got (F.offset o) (at + 2))
     unfolding read_typed
     without_number h l = rw typed (by k admits_none h l)
       where
-        by : (k : ℕ) (t : Bool) → (eqb k 0 && not t) ≡ false → k < 4 → (o : OffsetSpecification) × (read_typed t s at k (at + 2) ≡ got (F.offset o) (at + 2))
+        by : (k : ℕ) (t : Bool) → (k ≡ 0 → t ≡ true) → k < 4 → (o : OffsetSpecification) × (read_typed t s at k (at + 2) ≡ got (F.offset o) (at + 2))
         by zero true h l = (None, refl)
-        by zero false h l = absurd (false≢true (sym h))
+        by zero false h l = absurd (false≢true (h refl))
         by (suc zero) t h l = (First, refl)
         by (suc (suc zero)) t h l = (Last, refl)
         by (suc (suc (suc zero))) t h l = (Next, refl)

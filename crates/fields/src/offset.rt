@@ -23,23 +23,15 @@ pub fn specification_end(s: &[u8], at: usize, admits_none: bool) -> Result<usize
         });
     }
     let number = at + 2;
-    let kind = wire::number_or_zero(s, at, Width::Two);
-    if (kind == 0) & !admits_none {
-        return Err(Fault {
+    match wire::number_or_zero(s, at, Width::Two) {
+        0 if admits_none => Ok(number),
+        1..=3 => Ok(number),
+        4 | 5 => number_end(s, number, Width::Eight),
+        _ => Err(Fault {
             refusal: Refusal::ValueNotAdmitted,
             at,
-        });
+        }),
     }
-    if kind < 4 {
-        return Ok(number);
-    }
-    if kind < 6 {
-        return number_end(s, number, Width::Eight);
-    }
-    Err(Fault {
-        refusal: Refusal::ValueNotAdmitted,
-        at,
-    })
 }
 
 // The length of the type, and of the number behind types 4 and 5. Type 0 is admitted in ConsumerUpdate's response only (10).
