@@ -10,6 +10,10 @@ use lib.ListN.{length}
 use borrow.Author.Tests.{ltb-false, le-ltb}
 use Rattle.wire.specs.Integers.{Bytes, big_endian, number_or_zero}
 use Rattle.wire.proofs.Widths.{integers, positive, or_zero_lem}
+use Rattle.std.specs.Prelude.{Result, Ok, Err, is_ok}
+use Rattle.protocol.specs.Refusals.{number_in}
+use Rattle.protocol.specs.declared.refusal.Refusal.{Refusal}
+use Rattle.protocol.proofs.Refused.{some_number}
 use Rattle.rules.specs.Reading.{over_limit}
 use Rattle.frame_head.specs.Head.{head_of}
 use Rattle.frame_head.specs.Size.{Fits, size_refusal}
@@ -49,3 +53,7 @@ fits limit size room e = by (ltb 0xffff_ffff size) refl (over_limit limit size) 
 pub not_refused : (limit size room : ℕ) → Fits limit size room → size_refusal limit size room ≡ 0
 unfolding size_refusal
 not_refused limit size room h = rw (le-ltb _ _ h.bound, h.limited, le-ltb _ _ h.roomy)
+
+pub number_ok : {A : Type 0} (r : Result A Refusal) → number_in r ≡ 0 → is_ok r ≡ true
+number_ok (Ok a) e = refl
+number_ok (Err f) e = absurd (some_number f e)

@@ -2,7 +2,7 @@
 ghost use Rattle.std.specs.Prelude.{◌≡◌};
 ghost use Rattle.wire.specs.Buffer.{holds};
 ghost use Rattle.wire.specs.Integers.{digits};
-ghost use Rattle.fields.specs.Writer.{behind};
+ghost use Rattle.fields.specs.Passes.{behind};
 ghost use Rattle.frame_head.specs.Head.{head_of};
 
 use wire::Width;

@@ -5,4 +5,4 @@ mod head;
 mod size;
 
 pub use head::{Head, head_of, put_head};
-pub use size::{fits, over_limit, size_refusal};
+pub use size::{check_size, fits, over_limit};
