@@ -1,10 +1,7 @@
 -- No refusal has the number 0, so it says that nothing is refused. Assumes nothing.
 use mathlib.Core.Path.{◌≡◌, refl}
 use mathlib.Core.Bool.{true, false}
-use Prim.Native.Nat.{ℕ}
 use native.Mathlib.Omega.{arith}
-use lib.Dec.{eqb}
-use borrow.Author.Tests.{ne_eqb}
 use Rattle.std.specs.Prelude.{Result, Ok, Err, is_ok}
 use Rattle.protocol.specs.Refusals.{number_of, number_in}
 use Rattle.protocol.specs.declared.refusal.Refusal.{Refusal}

@@ -158,8 +158,11 @@ fn layouts_of(key: u16) -> Option<Layouts>
 fn one(first: &'static [FieldKind]) -> Option<Layouts>
     ensures { (k : ℕ) → listed_of k result ≡ under k 1 first.now ∷ [] }
 {
-    let second = None;
-    Some(Layouts { first, second })
+    let layouts = Layouts {
+        first,
+        second: None,
+    };
+    Some(layouts)
 }
 
 // A key that has two versions.

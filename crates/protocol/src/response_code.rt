@@ -46,13 +46,6 @@ impl ResponseCode {
 
     pub const NO_OFFSET: ResponseCode = ResponseCode { number: 0x13 };
 
-    // Any code is read as its number.
-    pub fn from_number(number: u16) -> ResponseCode
-        ensures { result ≡ code_of number }
-    {
-        ResponseCode { number: number }
-    }
-
     // The codes that have a name, in the order of their numbers.
     pub fn named() -> [ResponseCode; 19]
         ensures { result ≡ named_codes }
@@ -78,5 +71,14 @@ impl ResponseCode {
             ResponseCode::PUBLISHER_DOES_NOT_EXIST,
             ResponseCode::NO_OFFSET,
         ]
+    }
+}
+
+// Any code is read as its number.
+impl From<u16> for ResponseCode {
+    ghost from_gives = { λ number code. code ≡ code_of number };
+
+    fn from(number: u16) -> ResponseCode {
+        ResponseCode { number }
     }
 }
