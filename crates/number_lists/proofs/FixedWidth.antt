@@ -19,13 +19,11 @@ use Rattle.protocol.specs.Refusals.{field_cut}
 use Rattle.protocol.specs.declared.place.Place.{Place}
 use Rattle.rules.specs.Outcome.{got, refused, repeated}
 use Rattle.rules.specs.Reading.{read_field, read_row}
-use Rattle.rules.proofs.Bounds.{bounded_row}
 use Rattle.rules.proofs.Numbers.{number_there, number_cut, whole_width}
-use Rattle.byte_strings.specs.Stops.{stop, stop_at}
-use Rattle.byte_strings.specs.declared.stop.Stop.{Stop}
-use Rattle.byte_strings.proofs.Stops.{stops_by_stop}
+use Rattle.std.specs.Prelude.{Ok, Err}
+use Rattle.byte_strings.specs.Stops.{Stop, stop, stop_at}
+use Rattle.byte_strings.proofs.Stops.{at_one}
 use Rattle.number_lists.specs.Fixed.{NumbersOf, none, one_more, fixed_end}
-use Rattle.number_lists.specs.declared.fixed.Fixed.TheVariants.{End, Cut}
 
 module _ (s : List ℕ) (b : Bytes s) where
   row_read : {row : Row} {w : ℕ} → NumbersOf row w → (at : ℕ) → at + w ≤ length s → (fs : List (Field Place)) × (read_row row s at ≡ got fs (at + w))
@@ -106,8 +104,7 @@ module _ (s : List ℕ) (b : Bytes s) where
         at_first_lem : (k first : ℕ) → (k ≡ 0 → ⊥) → length s < first + w → e ≡ stop (read_row row s first) → e ≡ stop (repeated (read_row row) k s first)
         at_first_lem k first n l g =
             let c : Refused row first = row_cut r z first l in
-            let m : e.refused ≡ field_cut = ap (λ (x : Stop). x.refused) (g ∙ ap stop c.1) in
-            stops_by_stop (read_row row) s (λ from. bounded_row row s from) k first e n g (λ y. omega (arith, m, y))
+            g ∙ ap stop c.1 ∙ ap stop (sym (at_one (read_row row) s k first field_cut c.0 n c.1))
 
         by : (t : Bool) → ltb (length s) at ≡ t → e ≡ stop (repeated (read_row row) count s at)
         by true i =
@@ -123,43 +120,43 @@ module _ (s : List ℕ) (b : Bytes s) where
 -- ---- The code's answer
 
 module _ (len at width count : ℕ) where
-  pub none_asked : count ≡ 0 → End at ≡ fixed_end len at width count
+  pub none_asked : count ≡ 0 → Ok at ≡ fixed_end len at width count
   unfolding fixed_end
   none_asked n = let e : at + 0 * width ≡ at = omega arith in rw (n, le-ltb ((len - at) / width) 0 (omega arith), e)
 
   module _ (n : count ≡ 0 → ⊥) where
-    none_there : (len - at) / width ≡ 0 → Cut at ≡ fixed_end len at width count
+    none_there : (len - at) / width ≡ 0 → Err at ≡ fixed_end len at width count
     unfolding fixed_end
     none_there i = let e : at + 0 * width ≡ at = omega arith in rw (i, lt-ltb 0 count (omega (arith, n)), e)
 
-    pub no_width : width ≡ 0 → Cut at ≡ fixed_end len at width count
+    pub no_width : width ≡ 0 → Err at ≡ fixed_end len at width count
     no_width i = none_there (rw i (div-zero (len - at)))
 
-    pub outside : len < at → Cut at ≡ fixed_end len at width count
+    pub outside : len < at → Err at ≡ fixed_end len at width count
     outside l = let e : len - at ≡ 0 = omega arith in none_there (rw e (zero-div width))
 
-  pub too_few : (len - at) / width < count → Cut (at + (len - at) / width * width) ≡ fixed_end len at width count
+  pub too_few : (len - at) / width < count → Err (at + (len - at) / width * width) ≡ fixed_end len at width count
   unfolding fixed_end
   too_few l = rw (lt-ltb _ _ l)
 
-  pub enough : count ≤ (len - at) / width → End (at + count * width) ≡ fixed_end len at width count
+  pub enough : count ≤ (len - at) / width → Ok (at + count * width) ≡ fixed_end len at width count
   unfolding fixed_end
   enough l = rw (le-ltb _ _ l)
 
   -- What it tells.
-  pub known_end : (e : ℕ) → End e ≡ fixed_end len at width count → (count ≤ (len - at) / width) × (e ≡ at + count * width)
+  pub known_end : (e : ℕ) → Ok e ≡ fixed_end len at width count → (count ≤ (len - at) / width) × (e ≡ at + count * width)
   unfolding fixed_end
   known_end e h = by (ltb ((len - at) / width) count) refl h
     where
-      by : (t : Bool) → ltb ((len - at) / width) count ≡ t → End e ≡ cond t (Cut (at + (len - at) / width * width)) (End (at + count * width)) → (count ≤ (len - at) / width) × (e ≡ at + count * width)
+      by : (t : Bool) → ltb ((len - at) / width) count ≡ t → Ok e ≡ cond t (Err (at + (len - at) / width * width)) (Ok (at + count * width)) → (count ≤ (len - at) / width) × (e ≡ at + count * width)
       by true i j = absurd (let y : ◌≡◌ {A = ℕ} 0 1 = cc in omega arith)
       by false i j = (ltb-false _ _ i, cc)
 
-  pub known_cut : (e : ℕ) → Cut e ≡ fixed_end len at width count → ((len - at) / width < count) × (e ≡ at + (len - at) / width * width)
+  pub known_cut : (e : ℕ) → Err e ≡ fixed_end len at width count → ((len - at) / width < count) × (e ≡ at + (len - at) / width * width)
   unfolding fixed_end
   known_cut e h = by (ltb ((len - at) / width) count) refl h
     where
-      by : (t : Bool) → ltb ((len - at) / width) count ≡ t → Cut e ≡ cond t (Cut (at + (len - at) / width * width)) (End (at + count * width)) → ((len - at) / width < count) × (e ≡ at + (len - at) / width * width)
+      by : (t : Bool) → ltb ((len - at) / width) count ≡ t → Err e ≡ cond t (Err (at + (len - at) / width * width)) (Ok (at + count * width)) → ((len - at) / width < count) × (e ≡ at + (len - at) / width * width)
       by true i j = (ltb-true _ _ i, cc)
       by false i j = absurd (let y : ◌≡◌ {A = ℕ} 0 1 = cc in omega arith)
 
@@ -190,10 +187,10 @@ module _ (s : List ℕ) (b : Bytes s) (w : Width) (at count e : ℕ) where
   of_width : NumbersOf (number_row w) (width_of w)
   of_width = one_number (width_of w) (256 ^ width_of w - 1) (filled (width_of w))
 
-  pub numbers_end : End e ≡ fixed_end (length s) at (width_of w) count → stop_at e 0 ≡ stop (repeated (read_row (number_row w)) count s at)
+  pub numbers_end : Ok e ≡ fixed_end (length s) at (width_of w) count → stop_at e 0 ≡ stop (repeated (read_row (number_row w)) count s at)
   numbers_end h = let k = known_end (length s) at (width_of w) count e h in rw k.1 (all_there s b of_width (some_width w) at count k.0)
 
-  pub numbers_cut : Cut e ≡ fixed_end (length s) at (width_of w) count → stop_at e field_cut ≡ stop (repeated (read_row (number_row w)) count s at)
+  pub numbers_cut : Err e ≡ fixed_end (length s) at (width_of w) count → stop_at e field_cut ≡ stop (repeated (read_row (number_row w)) count s at)
   numbers_cut h =
       let k = known_cut (length s) at (width_of w) count e h in
       let short : length s < e + width_of w = rw k.1 (first_short s b of_width (some_width w) at count) in

@@ -21,12 +21,11 @@ use Rattle.protocol.specs.declared.place.Place.{Place}
 use Rattle.rules.specs.Outcome.{Outcome, got, refused, then, repeated}
 use Rattle.rules.specs.Reading.{count_of, read_count, read_list, read_field, read_row}
 use Rattle.rules.specs.Writing.{Encoding, wrote, checked, used_up, write_field, write_list}
-use Rattle.rules.proofs.Bounds.{Bounded, Numbered, bounded_repeated, bounded_row, numbered_count, numbered_field, numbered_row, numbered_repeated}
+use Rattle.rules.proofs.Bounds.{Bounded, Numbered, bounded_repeated, bounded_row, numbered_field, numbered_row, numbered_repeated}
 use Rattle.rules.proofs.Gives.{Gives}
 use Rattle.rules.proofs.Numbers.{number_there, number_cut}
 use Rattle.rules.proofs.Parts.{length_part}
-use Rattle.byte_strings.specs.Stops.{stop, refusal_of}
-use Rattle.byte_strings.specs.declared.stop.Stop.{Stop}
+use Rattle.byte_strings.specs.Stops.{Stop, stop, refusal_of}
 use Rattle.byte_strings.proofs.Checked.{only_checked, only_used, only_these, check_passed}
 use Rattle.byte_strings.proofs.Stops.{passed, pieces_refused, pieces_left, pieces_used}
 use Rattle.number_lists.specs.Checks.{before_elements}
@@ -49,30 +48,20 @@ module _ (s : List ℕ) (at : ℕ) where
     pub count_read : v < 0x8000_0000 → read_count s at ≡ got v (at + 4)
     count_read h = counted ∙ ap (λ (z : ℤ). count_of at z (at + 4)) (below_half 4 v h)
 
-  -- What its refusal, or 0, tells.
-  module _ (r : ℕ) (e : r ≡ (stop (read_count s at)).refused) where
-    by_count : (P : Type 0) → (read_count s at ≡ refused r at → P) → (at + 4 ≤ length s → read_count s at ≡ got (number_or_zero 4 s at) (at + 4) → r ≡ 0 → P) → P
-    by_count P f g = by (ltb (length s) (at + 4)) refl
-      where
-        refused_here : (n : ℕ) → read_count s at ≡ refused n at → P
-        refused_here n i = let j : r ≡ n = e ∙ ap (λ (o : Outcome ℕ). (stop o).refused) i in f (i ∙ ap (λ (m : ℕ). refused m at) (sym j))
+  by_count : (P : Type 0) → ((m : ℕ) → read_count s at ≡ refused m at → P) → (at + 4 ≤ length s → read_count s at ≡ got (number_or_zero 4 s at) (at + 4) → P) → P
+  by_count P f g = by (ltb (length s) (at + 4)) refl
+    where
+      sign : at + 4 ≤ length s → (t : Bool) → ltb (number_or_zero 4 s at) 0x8000_0000 ≡ t → P
+      sign h true i = g h (count_read h (number_or_zero 4 s at) refl (ltb-true _ _ i))
+      sign h false i = f bad_length (count_negative h (number_or_zero 4 s at) refl (ltb-false _ _ i))
 
-        sign : at + 4 ≤ length s → (t : Bool) → ltb (number_or_zero 4 s at) 0x8000_0000 ≡ t → P
-        sign h true i = let c = count_read h (number_or_zero 4 s at) refl (ltb-true _ _ i) in g h c (e ∙ ap (λ (o : Outcome ℕ). (stop o).refused) c)
-        sign h false i = refused_here bad_length (count_negative h (number_or_zero 4 s at) refl (ltb-false _ _ i))
+      by : (t : Bool) → ltb (length s) (at + 4) ≡ t → P
+      by true i = f field_cut (count_cut (ltb-true _ _ i))
+      by false i = sign (ltb-false _ _ i) (ltb (number_or_zero 4 s at) 0x8000_0000) refl
 
-        by : (t : Bool) → ltb (length s) (at + 4) ≡ t → P
-        by true i = refused_here field_cut (count_cut (ltb-true _ _ i))
-        by false i = sign (ltb-false _ _ i) (ltb (number_or_zero 4 s at) 0x8000_0000) refl
-
-    pub count_refused : (r ≡ 0 → ⊥) → read_count s at ≡ refused r at
-    count_refused z = by_count (read_count s at ≡ refused r at) (λ i. i) (λ _ _ k. absurd (z k))
-
-    pub count_there : r ≡ 0 → (at + 4 ≤ length s) × (read_count s at ≡ got (number_or_zero 4 s at) (at + 4))
-    count_there z =
-        by_count ((at + 4 ≤ length s) × (read_count s at ≡ got (number_or_zero 4 s at) (at + 4)))
-        (λ i. absurd (let n : Numbered {A = ℕ} (refused r at) = rw i at (numbered_count s at) in n z))
-        (λ h c _. (h, c))
+  -- A count that is read is there.
+  pub count_there : (n next : ℕ) → got n next ≡ read_count s at → at + 4 ≤ length s
+  count_there n next e = by_count (at + 4 ≤ length s) (λ m i. let no : ◌≡◌ {A = Outcome ℕ} (got n next) (refused m at) = e ∙ i in cc) (λ h _. h)
 
 -- ---- Reading
 
@@ -81,13 +70,13 @@ abbrev counted_list : ℕ → ℕ → Outcome Unit → Outcome (Field Place)
 counted_list at n o = then o (λ _ last. got (elements n (place (at + 4) (last - (at + 4)))) last)
 
 module _ (rule : ListRule) (row : Row) (s : List ℕ) (at : ℕ) where
-  pub list_refused : (n : ℕ) → read_count s at ≡ refused n at → read_field (list rule row) s at ≡ refused n at
+  pub list_refused : (n p : ℕ) → refused n p ≡ read_count s at → read_field (list rule row) s at ≡ refused n p
   unfolding read_field read_list
-  list_refused n i = rw i
+  list_refused n p i = rw (sym i)
 
-  pub list_stops : (n : ℕ) (e : Stop) → read_count s at ≡ got n (at + 4) → e ≡ stop (repeated (read_row row) n s (at + 4)) → e ≡ stop (read_field (list rule row) s at)
+  pub list_stops : (n : ℕ) (e : Stop) → got n (at + 4) ≡ read_count s at → e ≡ stop (repeated (read_row row) n s (at + 4)) → e ≡ stop (read_field (list rule row) s at)
   unfolding read_field read_list
-  list_stops n e i f = rw i (f ∙ by (repeated (read_row row) n s (at + 4)))
+  list_stops n e i f = rw (sym i) (f ∙ by (repeated (read_row row) n s (at + 4)))
     where
       by : (o : Outcome Unit) → stop o ≡ stop (counted_list at n o)
       by (got _ last) = refl
@@ -102,9 +91,9 @@ module _ (rule : ListRule) (row : Row) (s : List ℕ) (at : ℕ) where
   pub listed : Gives Listed (read_field (list rule row) s at)
   unfolding read_field read_list
   listed =
-      by_count s at (stop (read_count s at)).refused refl (Gives Listed (read_field (list rule row) s at))
-      (λ i. rw i tt)
-      (λ h i _. rw i (by h (repeated (read_row row) (number_or_zero 4 s at) s (at + 4)) (bounded_repeated s (read_row row) (λ from. bounded_row row s from) (number_or_zero 4 s at) (at + 4))))
+      by_count s at (Gives Listed (read_field (list rule row) s at))
+      (λ m i. rw i tt)
+      (λ h i. rw i (by h (repeated (read_row row) (number_or_zero 4 s at) s (at + 4)) (bounded_repeated s (read_row row) (λ from. bounded_row row s from) (number_or_zero 4 s at) (at + 4))))
     where
       by : at + 4 ≤ length s → (o : Outcome Unit) → Bounded s (at + 4) o → Gives Listed (counted_list at (number_or_zero 4 s at) o)
       by h (got _ last) b = record { after = b.0; within = b.1 h; field = refl }

@@ -1,10 +1,8 @@
 -- Elements of one width.
-use Rattle.std.specs.Prelude.{◌≡◌, cond, ℕ, suc, ◌+◌, ◌-◌, ◌*◌, ◌/◌, ◌^◌, ltb}
+use Rattle.std.specs.Prelude.{◌≡◌, cond, ℕ, suc, ◌+◌, ◌-◌, ◌*◌, ◌/◌, ◌^◌, ltb, Result, Ok, Err}
 use Rattle.wire.specs.Integers.{width_of}
 use Rattle.wire.specs.declared.integers.Width.{Width}
 use Rattle.protocol.specs.Kinds.{Kind, Row, end, ◌·◌, unsigned, list, plain}
-use Rattle.number_lists.specs.declared.fixed.Fixed.{Fixed}
-use Rattle.number_lists.specs.declared.fixed.Fixed.TheVariants.{End, Cut}
 
 -- A row of numbers that fill their bytes, and how many bytes it has.
 pub data NumbersOf : Row → ℕ → Type 0 where
@@ -15,9 +13,9 @@ pub data NumbersOf : Row → ℕ → Type 0 where
 abbrev pub numbers : Width → Kind
 numbers width = list plain (unsigned (width_of width) (256 ^ width_of width - 1) · end)
 
--- Where so many elements of a width end, if they all lie within len bytes; or where the first begins that does not.
-unfoldable pub fixed_end : ℕ → ℕ → ℕ → ℕ → Fixed
+-- Where so many elements of a width end, if they all lie within len bytes; or else where the first begins that does not.
+unfoldable pub fixed_end : ℕ → ℕ → ℕ → ℕ → Result ℕ ℕ
 fixed_end len at width count =
     cond (ltb ((len - at) / width) count)
-    (Cut (at + (len - at) / width * width))
-    (End (at + count * width))
+    (Err (at + (len - at) / width * width))
+    (Ok (at + count * width))

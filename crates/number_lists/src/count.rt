@@ -2,22 +2,31 @@
 ghost use Rattle.std.specs.Prelude.{◌≡◌, ltb};
 ghost use Rattle.wire.specs.Integers.{number_or_zero};
 ghost use Rattle.rules.specs.Reading.{read_count};
-ghost use Rattle.byte_strings.specs.Stops.{stop};
+ghost use Rattle.number_lists.specs.Counts.{counted};
 
-use protocol::refusal;
+use byte_strings::Fault;
+use protocol::Refusal;
 use wire::Width;
 
-// The number that the count at a place is refused with, 0 if it is read: four bytes (6), and no negative count (7).
-pub fn count_refusal(s: &[u8], at: usize) -> u8
-    ensures { result ≡ (stop (read_count s.now at)).refused }
+// The count at a place, which the elements stand behind: four bytes (6), and no negative count (7).
+#[tactic(auto, using(crate::proofs::Lists::count_cut, crate::proofs::Lists::count_negative, crate::proofs::Lists::count_read))]
+pub fn list_count(s: &[u8], at: usize) -> Result<usize, Fault>
+    ensures { counted at result ≡ read_count s.now at }
 {
     if !wire::has_room(s.len(), at, 4) {
-        return refusal::FIELD_CUT;
+        return Err(Fault {
+            refusal: Refusal::FieldCut,
+            at,
+        });
     }
-    if !is_count(count_at(s, at)) {
-        return refusal::BAD_LENGTH;
+    let count = count_at(s, at);
+    if !is_count(count) {
+        return Err(Fault {
+            refusal: Refusal::BadLength,
+            at,
+        });
     }
-    0
+    Ok(count)
 }
 
 // The count at a place; 0 where its bytes are not all there.

@@ -5,6 +5,6 @@ mod checks;
 mod count;
 mod fixed;
 
-pub use checks::{left_refusal, place_refusal};
-pub use count::{count_at, count_refusal};
-pub use fixed::{Fixed, fixed_end, numbers_end, numbers_refusal};
+pub use checks::{check_left, check_place};
+pub use count::{count_at, list_count};
+pub use fixed::{check_numbers, fixed_end, numbers_end};

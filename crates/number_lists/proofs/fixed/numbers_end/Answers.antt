@@ -1,0 +1,28 @@
+-- By the count, and then by the answer of `fixed_end`.
+use Rattle.std.proofs.Common.{sym, ap, arith}
+use Rattle.std.proofs.lemmas.Result.{err_from_is_err_and}
+use Rattle.wire.specs.Integers.{Bytes}
+use Rattle.byte_strings.specs.Stops.{stop}
+use Rattle.number_lists.proofs.FixedWidth.{numbers_end, numbers_cut}
+use Rattle.number_lists.proofs.Lists.{count_there, list_refused, list_stops}
+use Rattle.number_lists.proofs.fixed.numbers_end.Goals as goal
+
+pub returns-in_err-count : goal.returns-in_err-count
+returns-in_err-count c =
+    let p = err_from_is_err_and c.from_residual.result c.from_residual.ensures.1 in
+    rw (p.1, p.2) (ap stop (sym (list_refused _ _ _ _ _ _ c.in_err-count.ensures)))
+
+pub overflow_add-at : goal.overflow_add-at
+overflow_add-at c = omega (arith, count_there _ _ _ _ c.in_ok-count.ensures)
+
+pub returns-in-Ok : goal.returns-in-Ok
+unfolding Bytes
+returns-in-Ok c =
+    let a = c.args in
+    list_stops _ _ _ _ _ _ c.in_ok-count.ensures (numbers_end a.s.now (λ i. omega (arith, c.type_inv.s i)) a.width _ _ _ (rw c.bytes.ensures at c.in-Ok.ensures))
+
+pub returns-in-Err : goal.returns-in-Err
+unfolding Bytes
+returns-in-Err c =
+    let a = c.args in
+    list_stops _ _ _ _ _ _ c.in_ok-count.ensures (numbers_cut a.s.now (λ i. omega (arith, c.type_inv.s i)) a.width _ _ _ (rw c.bytes.ensures at c.in-Err.ensures))
