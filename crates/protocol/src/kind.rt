@@ -5,7 +5,7 @@ ghost use Rattle.protocol.specs.Kinds.{plain_list};
 use wire::Width;
 
 // A kind of field.
-#[derive(Clone, Copy)]
+#[derive(Clone, Copy, Debug, PartialEq, Eq)]
 pub enum FieldKind {
     // A number that fills its bytes.
     Number(Width),

@@ -4,14 +4,15 @@ use mathlib.Core.Path.{◌≡◌, refl, ◌∙◌, sym, ap}
 use mathlib.Core.Bool.{Bool, true, false}
 use mathlib.Core.List.{List, [], ◌++◌, append-nil}
 use Prim.Native.Nat.{ℕ, ◌+◌, ◌-◌, ◌≤◌, ◌<◌}
-use native.Mathlib.Numerals.{add-one}
+use Rattle.std.proofs.Common.{min}
+use borrow.Rule.Slice.PartMut.{put_mid}
 use native.Mathlib.Omega.{arith}
 use lib.Dec.{leb}
-use lib.ListN.{length, get_or, set, take, drop, length-append, length-drop, length-replicate}
-use lib.Seq.{length-take-le, take-suc, take_all, take-length, take-append_seam, take-append-le, take-append-add, drop-length}
+use lib.ListN.{length, take, drop, length-append, length-drop, length-replicate}
+use lib.Seq.{length-take-le, take_all, take-length, take-append_seam, take-append-le, take-append-add, drop-length, drop-drop}
 use borrow.Author.Tests.{leb-true, leb-false}
 use Rattle.wire.specs.Buffer.{splice}
-use Rattle.wire.proofs.Splice.{length_splice, splice_none, splice_back, splice_behind}
+use Rattle.wire.proofs.Splice.{length_splice, splice_none, splice_behind}
 use Rattle.slots.specs.Flat.{overlaid, padded}
 use Rattle.slots.proofs.Padding.{splice_padded}
 
@@ -36,12 +37,17 @@ module _ (s : List ℕ) (at : ℕ) (b : List ℕ) where
       ∙ ap (λ (x : List ℕ). take at s ++ x) (take-append-le i b (drop (at + length b) s) l ∙ sym (append-nil (take i b)))
       ∙ ap (λ (x : List ℕ). take at s ++ (take i b ++ x)) (sym (rw (m, h) (drop-length s)))
 
-  -- One value more.
-  pub one_more : (i : ℕ) → i < length b → at + i < length s → set (splice s at (take i b)) (at + i) (get_or b i 0) ≡ splice s at (take (i + 1) b)
-  one_more i h l =
-      let n : length (take i b) ≡ i = length-take-le i b (omega arith) in
-      let k : at + length (take i b) < length s = omega (arith, l, n) in
-      rw (add-one, take-suc b i 0 h, rw n at (splice_back s (take i b) at (get_or b i 0) k))
+  -- A write to as many of the slots as there are values, or up to the last slot.
+  pub put_mid_is : (n k : ℕ) (mid : List ℕ) → at ≤ length s → n ≡ min (length b) (length s - at) → k ≡ n → mid ≡ take n b → put_mid at k s mid ≡ overlaid s at b
+  unfolding splice
+  put_mid_is n k mid h m e f =
+      let l : length (take n b) ≡ n = length-take-le n b (omega arith) in
+      let fits : overlaid s at b ≡ splice s at (take n b) = by (leb (at + length b) (length s)) refl in
+      rw (fits, f, e, drop-drop n at s, l)
+    where
+      by : (t : Bool) → leb (at + length b) (length s) ≡ t → overlaid s at b ≡ splice s at (take n b)
+      by true e = let r : at + length b ≤ length s = leb-true _ _ e in all_fit r ∙ ap (splice s at) (sym (take_all n b (omega arith)))
+      by false e = some_fit n (omega (arith, leb-false (at + length b) (length s) e)) (omega arith)
 
   -- However they reach, the slots are as many as before.
   long_enough : at ≤ length s → length s ≤ length (splice s at b)

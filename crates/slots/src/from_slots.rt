@@ -7,7 +7,7 @@ ghost use Rattle.protocol.specs.declared.offset.OffsetSpecification.TheVariants.
 ghost use Rattle.slots.specs.Unflat.{unflat_octets, unflat_offset};
 
 use crate::to_slots::NULL_LENGTH;
-use protocol::{Elements, NullablePlace, OffsetSpecification, Place};
+use protocol::{Elements, OffsetSpecification, Place};
 use wire::Unsigned;
 
 pub fn place_of(at: u64, len: u64) -> Place
@@ -19,23 +19,21 @@ pub fn place_of(at: u64, len: u64) -> Place
     }
 }
 
-pub fn nullable_of(at: u64, len: u64) -> NullablePlace
+pub fn nullable_of(at: u64, len: u64) -> Option<Place>
     ensures { nullable_field result ≡ F.string (unflat_octets true at len) }
 {
     if len as usize == NULL_LENGTH {
-        return NullablePlace::Null;
+        return None;
     }
-    let place = place_of(at, len);
-    NullablePlace::At(place)
+    Some(place_of(at, len))
 }
 
 pub fn list_of(count: u64, at: u64, len: u64) -> Elements
     ensures { list_field result ≡ F.elements count (F.place at len) }
 {
-    let place = place_of(at, len);
     Elements {
         count: count as usize,
-        place: place,
+        place: place_of(at, len),
     }
 }
 

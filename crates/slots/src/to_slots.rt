@@ -2,34 +2,25 @@
 ghost use Rattle.std.specs.Prelude.{true, [], ◌∷◌, ◌++◌, ◌≡◌, ◌≤◌, get_or, drop};
 ghost use Rattle.wire.specs.Signed.{signed};
 ghost use Rattle.protocol.specs.Frames.{nullable_field};
-ghost use Rattle.protocol.specs.Layouts.{kind_said};
+ghost use Rattle.protocol.specs.Layouts.{kind_of};
 ghost use Rattle.slots.specs.Flat.{bits, flat_header, flat_octets, flat_offset, flat_place, not_null, overlaid, padded};
 ghost use Rattle.slots.specs.Inverse.{SignedHeader, SignedOffset};
-ghost use Rattle.slots.specs.Unflat.{slots_for};
+ghost use Rattle.slots.specs.Unflat as kinds;
 
-use protocol::{ChunkHeader, FieldKind, NullablePlace, OffsetSpecification, Place};
+use protocol::{ChunkHeader, FieldKind, OffsetSpecification, Place};
 use wire::Unsigned;
-
-#[derive(Clone, Copy)]
-pub struct FlatOffset {
-    pub kind: u64,
-    pub value: u64,
-}
 
 // The length of a null, whose place is 0.
 pub const NULL_LENGTH: usize = 0xffff_ffff_ffff_ffff;
 
 // How many slots a field of a kind takes.
 pub fn slots_of(kind: FieldKind) -> usize
-    ensures { (result ≡ slots_for (kind_said kind)) × (result ≤ 14) }
+    ensures value { result ≡ kinds.slots_of (kind_of kind) }
+    ensures most { result ≤ 14 }
 {
     match kind {
-        FieldKind::Nothing => 0,
-        FieldKind::Number(_) => 1,
-        FieldKind::Active => 1,
-        FieldKind::Signed => 1,
-        FieldKind::String { .. } => 2,
-        FieldKind::Specification { .. } => 2,
+        FieldKind::Number(_) | FieldKind::Active | FieldKind::Signed => 1,
+        FieldKind::String { .. } | FieldKind::Specification { .. } => 2,
         FieldKind::List(_) => 3,
         FieldKind::Chunk => 14,
     }
@@ -50,6 +41,7 @@ pub fn slot(slots: &[u64], at: usize, i: usize) -> u64
 }
 
 // Puts values into the slots from a place on, as far as there are slots.
+#[tactic(auto, using(crate::proofs::Overlaid::put_mid_is, crate::proofs::Overlaid::none_fits))]
 pub fn put_slots(slots: &mut [u64], at: usize, values: &[u64])
     ensures { slots.new ≡ overlaid slots.old at values.now }
 {
@@ -57,27 +49,20 @@ pub fn put_slots(slots: &mut [u64], at: usize, values: &[u64])
     if len <= at {
         return;
     }
-    let room = len - at;
-    let mut i = 0;
-    while i < values.len() {
-        if room <= i {
-            return;
-        }
-        slots[at + i] = values[i];
-        i += 1;
-    }
+    let count = values.len().min(len - at);
+    slots[at..at + count].copy_from_slice(&values[..count]);
 }
 
 // A null as a place: 0, with a length that no place has.
-pub fn place_or_null(o: NullablePlace) -> Place
+pub fn place_or_null(o: Option<Place>) -> Place
     ensures { flat_place result ≡ flat_octets true (nullable_field o).octets }
 {
     match o {
-        NullablePlace::Null => Place {
+        None => Place {
             at: 0,
             len: NULL_LENGTH,
         },
-        NullablePlace::At(place) => not_null(place),
+        Some(place) => not_null(place),
     }
 }
 
@@ -94,23 +79,17 @@ fn not_null(place: Place) -> Place
 }
 
 // The type, and the value: 0 where it has none.
-pub fn flat_offset(s: OffsetSpecification) -> FlatOffset
-    ensures slots { result.kind ∷ result.value ∷ [] ≡ flat_offset s }
+pub fn flat_offset(s: OffsetSpecification) -> [u64; 2]
+    ensures slots { result ≡ flat_offset s }
     ensures signed_offset { SignedOffset s }
 {
     match s {
-        OffsetSpecification::None => FlatOffset { kind: 0, value: 0 },
-        OffsetSpecification::First => FlatOffset { kind: 1, value: 0 },
-        OffsetSpecification::Last => FlatOffset { kind: 2, value: 0 },
-        OffsetSpecification::Next => FlatOffset { kind: 3, value: 0 },
-        OffsetSpecification::Offset(offset) => FlatOffset {
-            kind: 4,
-            value: offset,
-        },
-        OffsetSpecification::Timestamp(timestamp) => FlatOffset {
-            kind: 5,
-            value: u64::unsigned(timestamp),
-        },
+        OffsetSpecification::None => [0, 0],
+        OffsetSpecification::First => [1, 0],
+        OffsetSpecification::Last => [2, 0],
+        OffsetSpecification::Next => [3, 0],
+        OffsetSpecification::Offset(offset) => [4, offset],
+        OffsetSpecification::Timestamp(timestamp) => [5, u64::unsigned(timestamp)],
     }
 }
 
@@ -167,6 +146,7 @@ pub fn widened32(x: u32) -> u64
 }
 
 // The slots of a message: its place.
+#[tactic(auto, unfolding(crate::specs::Flat::padded))]
 pub fn place_slots(p: Place) -> [u64; 8]
     ensures { result ≡ padded 8 (flat_place p) }
 {
