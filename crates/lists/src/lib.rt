@@ -2,5 +2,7 @@
 #![tactic(auto)]
 
 mod list;
+mod writing;
 
-pub use list::{list_end, list_refusal, write_list};
+pub use list::{check_list, list_end};
+pub use writing::{measure_list, put_list};

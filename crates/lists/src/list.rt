@@ -1,19 +1,15 @@
-// Lists: a count, then each element in turn, read and written.
+// Lists: a count, then each element in turn, read and checked.
 ghost use Rattle.std.specs.Prelude.{◌≡◌};
 ghost use Rattle.protocol.specs.Fields as F;
-ghost use Rattle.protocol.specs.Frames.{list_field};
 ghost use Rattle.protocol.specs.Kinds.{list_of};
 ghost use Rattle.rules.specs.Reading.{read_field};
 ghost use Rattle.rules.specs.Writing.{write_field};
 ghost use Rattle.byte_strings.specs.Stops.{stop, refusal_of};
-ghost use Rattle.fields.specs.Writer.{state, step_field};
 
 use byte_strings::Stop;
 use elements::elements_end;
-use fields::Writer;
 use number_lists::{count_at, count_refusal, left_refusal, place_refusal};
-use protocol::{Elements, ListKind};
-use wire::Width;
+use protocol::ListKind;
 
 // Where the list at a place ends, or why it is refused: the count (6, 7), then the elements.
 pub fn list_end(s: &[u8], at: usize, kind: ListKind) -> Stop
@@ -43,27 +39,4 @@ pub fn list_refusal(src: &[u8], kind: ListKind, count: usize, at: usize, len: us
         return last.refused;
     }
     left_refusal(last.at, len)
-}
-
-// A list: its count, and the place of its encoded elements.
-pub fn write_list(w: Writer, src: &[u8], out: &mut [u8], kind: ListKind, list: Elements) -> Writer
-    ensures { state result out.new ≡ step_field (list_of kind) src.now (list_field list) (state w out.old) }
-{
-    let count = list.count;
-    let place = list.place;
-    let at = w.at;
-    let from = place.at;
-    let len = place.len;
-    if w.refused != 0 {
-        return w;
-    }
-    if w.putting {
-        let next = wire::put_number(out, at, Width::Four, count as u64);
-        return Writer::at_place(wire::put_bytes(out, next, src, from, len));
-    }
-    let number = list_refusal(src, kind, count, from, len);
-    if number != 0 {
-        return w.refuse(number);
-    }
-    w.count(4 + len)
 }
