@@ -11,7 +11,7 @@ use native.Mathlib.Omega.{arith}
 use borrow.Author.Tests.{leb-true, leb-false, le-leb, eqb-true, eqb-false}
 use lib.ListN.{length, length-replicate}
 use lib.Dec.{leb, eqb}
-use Rattle.protocol.specs.Refusals.{not_open, already_open, over_limit}
+use Rattle.protocol.specs.Refusals.{over_limit}
 use Rattle.ledger.specs.Calls.{Op, start, add, take, stop, Purpose, for_id, Answer, accepted, refused, Accepted, answer_by}
 use Rattle.ledger.specs.Rules.{Entry, closed, opened, most, refusal, effect, empty, Sized, entry_at, store, keep_or, ledger_at, Act, aside, at, Terms, answer_to, ledger_after, purpose_of}
 use Rattle.ledger.specs.History.{opening, added, taken, refusal_by, refusal_in, OpenWith, note, stays, Within, accepted_for, strike_calls, strike, AllWithin}

@@ -46,17 +46,17 @@ pub fn start(ledger: &mut [u32; 257], id: u8, balance: u16) -> Result<(), Refusa
     Ok(())
 }
 
-// Adds n to an open id's balance. The comparison comes before the sum, which a balance that the host made up would
-// overflow.
+// Adds n to an open id's balance. A balance that the host made up may have no sum.
 pub fn add(ledger: &mut [u32; 257], id: u8, n: u32) -> Result<(), Refusal>
     ensures refusal { number_of result ≡ refusal (add n) (entry_at ledger.old id) }
     ensures ledger_after { ledger.new ≡ ledger_at ledger.old id (add n) }
 {
     let balance = state(ledger, id).ok_or(Refusal::NotOpen)?;
-    if MOST < n || MOST - n < balance {
+    let sum = balance.checked_add(n).ok_or(Refusal::OverLimit)?;
+    if MOST < sum {
         return Err(Refusal::OverLimit);
     }
-    put(ledger, id, Some(balance + n));
+    put(ledger, id, Some(sum));
     Ok(())
 }
 
