@@ -1,6 +1,5 @@
 -- The definitions compute at each marked case. Assumes nothing.
 use mathlib.Core.Path.{refl}
-use mathlib.Core.List.{reverse, reverse_aux}
 use Rattle.wire.specs.Integers.{big_endian}
 use Rattle.wire.specs.Signed.{signed}
 use Rattle.protocol.specs.Decision.{versions_in, of_version, decide}
@@ -11,5 +10,5 @@ use Rattle.rules.proofs.MarkedCases as rules
 use Rattle.credit_ledger.specs.Cases.{MarkedCases}
 
 pub marked_cases : MarkedCases
-unfolding reverse reverse_aux big_endian signed versions_in of_version decide table row_in repeated read_number read_unsigned read_entries read_data read_chunk read_field read_row read_content read_layout read_decided read_sized read_frame
+unfolding big_endian signed versions_in of_version decide table row_in repeated read_number read_unsigned read_entries read_data read_chunk read_field read_row read_content read_layout read_decided read_sized read_frame
 marked_cases = record { A_L = rules.marked_cases; M = refl; N = refl }

@@ -1,15 +1,15 @@
 -- What each call of the credit ledger does to a ledger, and what the code's answers say.
-use Rattle.std.specs.Prelude.{ℕ, List}
+use Rattle.std.specs.Prelude.{ℕ, List, Result}
 use Rattle.std.proofs.Math.Option.{Option, none, some}
 use Rattle.protocol.specs.Fields.{Fields}
 use Rattle.protocol.specs.Refusals.{no_credit}
 use Rattle.protocol.specs.declared.place.Place.{Place}
+use Rattle.protocol.specs.declared.refusal.Refusal as protocol
 use Rattle.rules.specs.Reading.{read_frame}
 use Rattle.rules.specs.Reading as rules
 use Rattle.ledger.specs.Calls.{Op, start, add, take, stop, answer_by}
 use Rattle.ledger.specs.Rules.{Act, aside, at, Terms, answer_to, ledger_after}
 use Rattle.ledger.specs.Answers.{number_of}
-use Rattle.ledger.specs.declared.Change.{Change}
 use Rattle.credit_ledger.specs.Calls.{Call, opening, grant, closing, received, Yield, nothing, frame, Refusal, number, Reply, read_answer, deliver_id}
 
 -- What a Deliver asks of its id: to take one from the balance, 15 if there is none.
@@ -43,5 +43,5 @@ abbrev pub after : List ℕ → Call → List ℕ
 after l c = ledger_after l (act c)
 
 -- What the code's answers say.
-abbrev pub answer_of_change : Change → Reply
+abbrev pub answer_of_change : Result Unit protocol.Refusal → Reply
 answer_of_change r = answer_by number (number_of r) nothing

@@ -1,34 +1,12 @@
-// Openings, grants and closings, and what a ledger has of an id.
+// Openings, grants and closings.
 ghost use Rattle.std.specs.Prelude.{◌≡◌};
-ghost use Rattle.ledger.specs.Rules.{empty, entry_at};
-ghost use Rattle.ledger.specs.Answers.{entry_of};
 ghost use Rattle.credit_ledger.specs.Calls.{opening, grant, closing};
 ghost use Rattle.credit_ledger.specs.Step.{answer, after, answer_of_change};
 
-use ledger::{Change, IdState};
-
-// A ledger in which all ids are closed.
-pub fn empty() -> [u32; 257]
-    ensures { result ≡ empty }
-{
-    ledger::empty()
-}
-
-// Closes all ids of a ledger, whatever it held.
-pub fn clear(credits: &mut [u32; 257])
-    ensures { credits.new ≡ empty }
-{
-    ledger::clear(credits);
-}
-
-pub fn state(credits: &[u32; 257], id: u8) -> IdState
-    ensures { entry_of result ≡ entry_at credits.now id }
-{
-    ledger::state(credits, id)
-}
+use protocol::Refusal;
 
 // To be called when Subscribe is answered OK: 14 if the id is open.
-pub fn open(credits: &mut [u32; 257], id: u8, credit: u16) -> Change
+pub fn open(credits: &mut [u32; 257], id: u8, credit: u16) -> Result<(), Refusal>
     ensures answer { answer_of_change result ≡ answer credits.old (opening id credit) }
     ensures credits_after { credits.new ≡ after credits.old (opening id credit) }
 {
@@ -36,7 +14,7 @@ pub fn open(credits: &mut [u32; 257], id: u8, credit: u16) -> Change
 }
 
 // 13 if the id is closed, 16 if its balance would pass 1,000,000.
-pub fn grant(credits: &mut [u32; 257], id: u8, more: u16) -> Change
+pub fn grant(credits: &mut [u32; 257], id: u8, more: u16) -> Result<(), Refusal>
     ensures answer { answer_of_change result ≡ answer credits.old (grant id more) }
     ensures credits_after { credits.new ≡ after credits.old (grant id more) }
 {
@@ -44,7 +22,7 @@ pub fn grant(credits: &mut [u32; 257], id: u8, more: u16) -> Change
 }
 
 // 13 if the id is closed.
-pub fn close(credits: &mut [u32; 257], id: u8) -> Change
+pub fn close(credits: &mut [u32; 257], id: u8) -> Result<(), Refusal>
     ensures answer { answer_of_change result ≡ answer credits.old (closing id) }
     ensures credits_after { credits.new ≡ after credits.old (closing id) }
 {

@@ -4,4 +4,5 @@
 
 mod calls;
 
-pub use calls::{clear, close, empty, grant, open, state};
+pub use calls::{close, grant, open};
+pub use ledger::{clear, empty, state};

@@ -1,17 +1,16 @@
 -- What is known of a frame before it is read: the subscription that its first bytes name, and whether the ledger has a
 -- credit for it.
-use Rattle.std.specs.Prelude.{ℕ, Bool, true, false, cond, ◌&&◌, List, eqb, ltb, length, get_or}
+use Rattle.std.specs.Prelude.{ℕ, Bool, true, false, cond, ◌&&◌, List, eqb, ltb, length, get_or, Some, None}
+use Rattle.std.specs.Prelude as std
 use Rattle.std.proofs.Math.Option.{Option, none, some}
 use Rattle.wire.specs.Integers.{big_endian}
 use Rattle.ledger.specs.Rules.{refusal, entry_at, ledger_at}
 use Rattle.credit_ledger.specs.Step.{spend}
-use Rattle.credit_receiving.specs.declared.subscription.Subscription.{Subscription}
-use Rattle.credit_receiving.specs.declared.subscription.Subscription.TheVariants.{Id, Nothing}
 
 -- What the code's subscription says.
-abbrev pub id_of : Subscription → Option ℕ
-id_of (Id i) = some i
-id_of Nothing = none
+abbrev pub id_of : std.Option ℕ → Option ℕ
+id_of (Some i) = some i
+id_of None = none
 
 -- The subscription id that the bytes are for, if they begin with a Deliver: the key is the two bytes at 4, the id the byte
 -- at 8.

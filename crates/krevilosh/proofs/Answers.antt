@@ -1,30 +1,25 @@
--- Each answer of a layer below, as the number that the host gets. What a frame needs is bounded, as its Size is. Assumes nothing.
+-- What a frame needs is bounded, as its Size is. Assumes nothing.
 use mathlib.Core.Path.{◌≡◌, refl, sym, ap, subst, ◌∙◌}
 use mathlib.Core.List.{List}
 use mathlib.Core.Logic.{◌⊎◌, inl, inr}
-use mathlib.Core.Option.{Option, none, some}
 use Prim.Native.Nat.{ℕ}
 use native.Mathlib.Omega.{arith}
 use Rattle.wire.specs.Integers.{Bytes}
 use Rattle.rules.specs.Answers.{reading_refusal, IfRefused, ReadingNumber}
 use Rattle.rules.specs.Reading.{read_frame}
 use Rattle.rules.proofs.RefusalNumbers.{numbers}
-use Rattle.ledger.specs.Calls.{answer_by}
 use Rattle.ledger.specs.Numbers.{LedgerNumber}
-use Rattle.credit_ledger.specs.Calls.{received, nothing, number}
+use Rattle.credit_ledger.specs.Calls.{received}
 use Rattle.credit_ledger.specs.Numbers.{credit_refusal}
 use Rattle.credit_ledger.specs.Step.{answer}
 use Rattle.credit_ledger.proofs.Numbers.{credit_numbers}
-use Rattle.publisher_ledger.specs.Numbers.{refusal_number}
 use Rattle.frame_reading.specs.Answer.{refusal_of}
 use Rattle.frame_reading.specs.declared.reading.FrameRead.{FrameRead}
 use Rattle.frame_reading.specs.declared.reading.FrameRead.TheVariants.{Frame, Short, Refused}
 use Rattle.credit_receiving.specs.Answer.{received_refusal}
 use Rattle.credit_receiving.specs.declared.receiving.Received.{Received}
 use Rattle.credit_receiving.specs.declared.receiving.Received.TheVariants.{Reading}
-use Rattle.krevilosh.specs.Answer.{or_zero, refusal_answer, NeededFits}
-
--- ---- The bytes needed
+use Rattle.krevilosh.specs.Answer.{NeededFits}
 
 needs_fit : (r : FrameRead) → IfRefused ReadingNumber (refusal_of r) → NeededFits (refusal_of r)
 needs_fit Frame h = tt
@@ -45,13 +40,3 @@ pub received_fits : (l s : List ℕ) (limit : ℕ) (x : Received) (r : FrameRead
 received_fits l s limit x r b i e =
     let same : credit_refusal (answer l (received s limit)) ≡ refusal_of r = sym e ∙ ap received_refusal i in
     of_either r (subst (IfRefused (λ x. ReadingNumber x ⊎ LedgerNumber x.number)) same (credit_numbers.received_frames l s limit b))
-
--- ---- The answers of the ledgers
-
-pub credit_changed : (o : Option ℕ) → or_zero o ≡ refusal_answer (credit_refusal (answer_by number o nothing))
-credit_changed none = refl
-credit_changed (some n) = refl
-
-pub publisher_changed : (o : Option ℕ) → or_zero o ≡ or_zero (refusal_number (answer_by (λ n. n) o tt))
-publisher_changed none = refl
-publisher_changed (some n) = refl

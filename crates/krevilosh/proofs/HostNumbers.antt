@@ -36,7 +36,7 @@ use Rattle.credit_ledger.proofs.Numbers.{credit_numbers}
 use Rattle.publisher_ledger.specs.Numbers.{refusal_number}
 use Rattle.publisher_ledger.specs.Step as publisher
 use Rattle.publisher_ledger.proofs.Numbers.{publisher_numbers}
-use Rattle.krevilosh.specs.Answer.{answer, or_zero, refusal_answer, written_answer, next_answer}
+use Rattle.krevilosh.specs.Answer.{or_zero, refusal_answer, written_answer, next_answer}
 use Rattle.krevilosh.specs.Numbers.{Tells, asked_refusal, found_refusal, number_refusal, length_of, entries_in, HostNumbers}
 
 -- ---- One number

@@ -3,13 +3,13 @@ ghost use Rattle.std.specs.Prelude.{◌≡◌};
 ghost use Rattle.ledger.specs.Answers.{number_of};
 ghost use Rattle.krevilosh.specs.Answer.{or_zero};
 
-use ledger::Change;
+use protocol::Refusal;
 
-pub fn changed(change: Change) -> u64
+pub fn changed(change: Result<(), Refusal>) -> u64
     ensures { result ≡ or_zero (number_of change) }
 {
     match change {
-        Change::Accepted => 0,
-        Change::Refused(number) => number as u64,
+        Ok(()) => 0,
+        Err(refusal) => refusal.number() as u64,
     }
 }

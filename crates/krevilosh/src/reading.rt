@@ -37,7 +37,7 @@ pub fn krevilosh_credit_receive(
 {
     match credit_receiving::receive(credits, bytes, limit, frame) {
         Received::Reading(read) => number_of(read),
-        Received::Refused(number) => number as u64,
+        Received::Refused(refusal) => refusal.number() as u64,
     }
 }
 

@@ -11,7 +11,7 @@ use native.Mathlib.Omega.{arith}
 use borrow.Author.Tests.{leb-true, leb-false, le-leb, eqb-true, eqb-false}
 use lib.ListN.{length, length-replicate}
 use lib.Dec.{leb, eqb}
-use Rattle.protocol.specs.Refusals.{not_open, already_open, over_limit}
+use Rattle.protocol.specs.Refusals.{over_limit}
 use Rattle.ledger.specs.Calls.{Op, start, add, take, stop, Purpose, for_id, Answer, accepted, refused, Accepted, answer_by}
 use Rattle.ledger.specs.Rules.{Entry, closed, opened, most, refusal, effect, empty, Sized, entry_at, store, keep_or, ledger_at, Act, aside, at, Terms, answer_to, ledger_after, purpose_of}
 use Rattle.ledger.specs.History.{opening, added, taken, refusal_by, refusal_in, OpenWith, note, stays, Within, accepted_for, strike_calls, strike, AllWithin}
@@ -39,14 +39,14 @@ unrefused false n e = never n e
 -- It still is after a call that was accepted.
 next : (ops : List Op) (op : Op) (e : Entry) → Stands ops e → refusal op e ≡ none → Stands (op ∷ ops) (effect op e)
 next ops (start c) closed s r = (c, refl, refl)
-next ops (start c) (opened b) s r = never already_open r
-next ops (add n) closed s r = never not_open r
+next ops (start c) (opened b) s r = never _ r
+next ops (add n) closed s r = never _ r
 next ops (add n) (opened b) s r = (s.0, s.1, omega (arith, s.2))
-next ops (take n k) closed s r = never not_open r
+next ops (take n k) closed s r = never _ r
 next ops (take n k) (opened b) s r =
     let fits : n ≤ b = leb-true n b (unrefused (leb n b) k r) in
     (s.0, s.1, omega (arith, s.2))
-next ops stop closed s r = never not_open r
+next ops stop closed s r = never _ r
 next ops stop (opened b) s r = refl
 
 same_test : (a b c d : ℕ) → (a ≤ b → c ≤ d) → (c ≤ d → a ≤ b) → leb a b ≡ leb c d
@@ -244,12 +244,10 @@ module _ {C Y R : Type 0} (T : Terms C Y R) where
 
   -- Calls made one after another give the history and the ledger of their list turned round.
   make_on : (cs done : List C) → make T cs (history T done) (ledger_of T done) ≡ (history T (reverse_aux cs done), ledger_of T (reverse_aux cs done))
-  unfolding reverse_aux
   make_on [] done = refl
   make_on (c ∷ cs) done = make_on cs (c ∷ done)
 
   make_reversed : (cs : List C) → make T cs [] empty ≡ (history T (reverse cs), ledger_of T (reverse cs))
-  unfolding reverse
   make_reversed cs = make_on cs []
 
   of_step : (cs : List C) → AllWithin stepped cs → Demand3 T stepped cs

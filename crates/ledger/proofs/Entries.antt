@@ -1,5 +1,5 @@
 -- What a ledger holds at each id, before and after a store. Assumes nothing.
-use Prim.Native.Nat.{ℕ, zero, suc, ◌-◌, ◌<◌}
+use Prim.Native.Nat.{ℕ, ◌<◌}
 use mathlib.Core.Path.{◌≡◌, refl, ap, ◌∙◌}
 use mathlib.Core.Logic.{◌≢◌}
 use mathlib.Core.List.{List}
@@ -14,15 +14,6 @@ use Rattle.ledger.specs.Rules.{Entry, closed, opened, refusal, effect, decode, e
 decode_encode : (e : Entry) → decode (encode e) ≡ e
 decode_encode closed = refl
 decode_encode (opened b) = rw add-one
-
-pub encode_decode : (v : ℕ) → encode (decode v) ≡ v
-encode_decode zero = refl
-encode_decode (suc b) = add-one b
-
--- An entry other than 0 is open, with one less for its balance.
-pub decode_open : (e : ℕ) → (e ≡ 0 → ⊥) → decode e ≡ opened (e - 1)
-decode_open zero h = absurd (h refl)
-decode_open (suc b) h = ap opened (omega arith)
 
 pub look_same : (l : List ℕ) (i : ℕ) (e : Entry) → i < 256 → Sized l → entry_at (store l i e) i ≡ e
 look_same l i e h n = ap decode (get_or-set_same l i (encode e) 0 (omega arith)) ∙ decode_encode e

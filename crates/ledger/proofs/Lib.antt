@@ -1,5 +1,4 @@
--- The laws of any ledger, and what its code has to show.
+-- The laws of any ledger.
 pub mod Entries
-mod Steps
 pub mod Demand3
 pub mod Numbers

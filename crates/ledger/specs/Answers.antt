@@ -1,17 +1,17 @@
 -- What the answers of the code say in the terms of the rules.
-use Rattle.std.specs.Prelude.{ℕ}
+use Rattle.std.specs.Prelude.{ℕ, Result, Ok, Err, Some, None}
+use Rattle.std.specs.Prelude as std
 use Rattle.std.proofs.Math.Option.{Option, none, some}
+use Rattle.protocol.specs.Refusals as refusals
+use Rattle.protocol.specs.declared.refusal.Refusal.{Refusal}
 use Rattle.ledger.specs.Rules.{Entry, closed, opened}
-use Rattle.ledger.specs.declared.Change.{Change}
-use Rattle.ledger.specs.declared.Change.TheVariants.{Accepted, Refused}
-use Rattle.ledger.specs.declared.IdState.{IdState}
-use Rattle.ledger.specs.declared.IdState.TheVariants.{Closed, Open}
 
 -- The refusal number, if it is one.
-abbrev pub number_of : Change → Option ℕ
-number_of Accepted = none
-number_of (Refused n) = some n
+abbrev pub number_of : Result Unit Refusal → Option ℕ
+number_of (Ok a) = none
+number_of (Err r) = some (refusals.number_of r)
 
-abbrev pub entry_of : IdState → Entry
-entry_of Closed = closed
-entry_of (Open b) = opened b
+-- What an id's balance says, or that it has none.
+abbrev pub entry_of : std.Option ℕ → Entry
+entry_of None = closed
+entry_of (Some b) = opened b

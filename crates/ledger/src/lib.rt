@@ -2,28 +2,18 @@
 // behind the ids is not used. The credit ledger and the publisher ledger are made of these calls.
 #![tactic(auto)]
 
-ghost use Rattle.std.specs.Prelude.{◌≡◌};
+ghost use Rattle.std.specs.Prelude.{◌≡◌, ◌<◌, IfSome};
+ghost use Rattle.protocol.specs.Refusals as refusals;
 ghost use Rattle.ledger.specs.Calls.{start, add, take, stop};
-ghost use Rattle.ledger.specs.Rules.{refusal, entry_at, ledger_at, empty, decode, store};
+ghost use Rattle.ledger.specs.Rules.{refusal, entry_at, ledger_at, empty, store};
 ghost use Rattle.ledger.specs.Answers.{number_of, entry_of};
 
-use protocol::refusal;
+use protocol::Refusal;
 
 // The largest balance that a call can leave.
 const MOST: u32 = 1_000_000;
 
-#[derive(Clone, Copy)]
-pub enum Change {
-    Accepted,
-    Refused(u8),
-}
-
-#[derive(Clone, Copy)]
-pub enum IdState {
-    Closed,
-    Open(u32),
-}
-
+// A ledger in which all ids are closed.
 pub fn empty() -> [u32; 257]
     ensures { result ≡ empty }
 {
@@ -37,88 +27,67 @@ pub fn clear(ledger: &mut [u32; 257])
     *ledger = empty();
 }
 
-pub fn state(ledger: &[u32; 257], id: u8) -> IdState
+// An open id's balance.
+pub fn state(ledger: &[u32; 257], id: u8) -> Option<u32>
     ensures { entry_of result ≡ entry_at ledger.now id }
 {
-    let at = id as usize;
-    let entry = ledger[at];
-    if entry == 0 {
-        IdState::Closed
-    } else {
-        IdState::Open(entry - 1)
-    }
+    ledger[id as usize].checked_sub(1)
 }
 
 // Opens an id with a balance.
-pub fn start(ledger: &mut [u32; 257], id: u8, balance: u16) -> Change
+pub fn start(ledger: &mut [u32; 257], id: u8, balance: u16) -> Result<(), Refusal>
     ensures refusal { number_of result ≡ refusal (start balance) (entry_at ledger.old id) }
     ensures ledger_after { ledger.new ≡ ledger_at ledger.old id (start balance) }
 {
-    let at = id as usize;
-    let entry = ledger[at];
-    if entry != 0 {
-        return Change::Refused(refusal::ALREADY_OPEN);
+    if state(ledger, id).is_some() {
+        return Err(Refusal::AlreadyOpen);
     }
-    put(ledger, id, balance as u32 + 1);
-    Change::Accepted
+    put(ledger, id, Some(balance as u32));
+    Ok(())
 }
 
-// Adds n to an open id's balance. The comparison comes before the sum, which a balance that the host made up would
-// overflow.
-pub fn add(ledger: &mut [u32; 257], id: u8, n: u32) -> Change
+// Adds n to an open id's balance. A balance that the host made up may have no sum.
+pub fn add(ledger: &mut [u32; 257], id: u8, n: u32) -> Result<(), Refusal>
     ensures refusal { number_of result ≡ refusal (add n) (entry_at ledger.old id) }
     ensures ledger_after { ledger.new ≡ ledger_at ledger.old id (add n) }
 {
-    let at = id as usize;
-    let entry = ledger[at];
-    if entry == 0 {
-        return Change::Refused(refusal::NOT_OPEN);
+    let balance = state(ledger, id).ok_or(Refusal::NotOpen)?;
+    let sum = balance.checked_add(n).ok_or(Refusal::OverLimit)?;
+    if MOST < sum {
+        return Err(Refusal::OverLimit);
     }
-    if MOST < n {
-        return Change::Refused(refusal::OVER_LIMIT);
-    }
-    if MOST - n < entry - 1 {
-        return Change::Refused(refusal::OVER_LIMIT);
-    }
-    put(ledger, id, entry + n);
-    Change::Accepted
+    put(ledger, id, Some(sum));
+    Ok(())
 }
 
 // Takes n from an open id's balance; `short` is the refusal where the balance is smaller.
-pub fn take(ledger: &mut [u32; 257], id: u8, n: u32, short: u8) -> Change
-    ensures refusal { number_of result ≡ refusal (take n short) (entry_at ledger.old id) }
-    ensures ledger_after { ledger.new ≡ ledger_at ledger.old id (take n short) }
+pub fn take(ledger: &mut [u32; 257], id: u8, n: u32, short: Refusal) -> Result<(), Refusal>
+    ensures refusal { number_of result ≡ refusal (take n (refusals.number_of short)) (entry_at ledger.old id) }
+    ensures ledger_after { ledger.new ≡ ledger_at ledger.old id (take n (refusals.number_of short)) }
 {
-    let at = id as usize;
-    let entry = ledger[at];
-    if entry == 0 {
-        return Change::Refused(refusal::NOT_OPEN);
-    }
-    if entry - 1 < n {
-        return Change::Refused(short);
-    }
-    put(ledger, id, entry - n);
-    Change::Accepted
+    let balance = state(ledger, id).ok_or(Refusal::NotOpen)?;
+    let left = balance.checked_sub(n).ok_or(short)?;
+    put(ledger, id, Some(left));
+    Ok(())
 }
 
 // Closes an id.
-pub fn stop(ledger: &mut [u32; 257], id: u8) -> Change
+pub fn stop(ledger: &mut [u32; 257], id: u8) -> Result<(), Refusal>
     ensures refusal { number_of result ≡ refusal stop (entry_at ledger.old id) }
     ensures ledger_after { ledger.new ≡ ledger_at ledger.old id stop }
 {
-    let at = id as usize;
-    let entry = ledger[at];
-    if entry == 0 {
-        return Change::Refused(refusal::NOT_OPEN);
-    }
-    put(ledger, id, 0);
-    Change::Accepted
+    state(ledger, id).ok_or(Refusal::NotOpen)?;
+    put(ledger, id, None);
+    Ok(())
 }
 
-// The only function that changes a ledger.
-fn put(ledger: &mut [u32; 257], id: u8, entry: u32)
-    ensures { ledger.new ≡ store ledger.old id (decode entry) }
+// Closes an id, or leaves it open with a balance. The only function that changes a ledger.
+fn put(ledger: &mut [u32; 257], id: u8, balance: Option<u32>)
+    requires { IfSome balance (λ b. b < 0xffff_ffff) }
+    ensures { ledger.new ≡ store ledger.old id (entry_of balance) }
 {
-    let at = id as usize;
-    ledger[at] = entry;
+    ledger[id as usize] = match balance {
+        Some(balance) => balance + 1,
+        None => 0,
+    };
 }

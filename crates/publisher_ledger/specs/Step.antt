@@ -1,10 +1,10 @@
 -- What each call of the publisher ledger does to a ledger, and what the code's answers say.
-use Rattle.std.specs.Prelude.{ℕ, List}
+use Rattle.std.specs.Prelude.{ℕ, List, Result}
 use Rattle.protocol.specs.Refusals.{not_out}
+use Rattle.protocol.specs.declared.refusal.Refusal.{Refusal}
 use Rattle.ledger.specs.Calls.{start, add, take, stop, answer_by}
 use Rattle.ledger.specs.Rules.{Act, at, Terms, answer_to, ledger_after}
 use Rattle.ledger.specs.Answers.{number_of}
-use Rattle.ledger.specs.declared.Change.{Change}
 use Rattle.publisher_ledger.specs.Calls.{Call, declaration, deletion, sending, confirming, Reply}
 
 -- An id's balance is its messages out.
@@ -24,5 +24,5 @@ answer l c = answer_to (λ n. n) l (act c)
 abbrev pub after : List ℕ → Call → List ℕ
 after l c = ledger_after l (act c)
 
-abbrev pub answer_of : Change → Reply
+abbrev pub answer_of : Result Unit Refusal → Reply
 answer_of r = answer_by (λ n. n) (number_of r) tt

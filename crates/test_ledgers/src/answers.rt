@@ -1,38 +1,35 @@
 // The answers on standard output, a line each.
 use credit_receiving::Received;
 use frame_reading::FrameRead;
-use ledger::{Change, IdState};
+use protocol::Refusal;
 use test_text::{decimal, line, word};
 
-pub fn change(answer: Change) {
+pub fn change(answer: Result<(), Refusal>) {
     match answer {
-        Change::Accepted => accepted(),
-        Change::Refused(number) => refused(number),
+        Ok(()) => accepted(),
+        Err(refusal) => refused(refusal),
     }
 }
 
 pub fn received(answer: Received) {
     match answer {
         Received::Reading(reading) => read(reading),
-        Received::Refused(number) => refused(number),
+        Received::Refused(refusal) => refused(refusal),
     }
 }
 
 fn read(reading: FrameRead) {
     match reading {
         FrameRead::Frame => accepted(),
-        FrameRead::Short { needed: n } => short(n),
-        FrameRead::Refused {
-            number: n,
-            place: p,
-        } => misread(n, p),
+        FrameRead::Short { needed } => short(needed),
+        FrameRead::Refused { number, place } => misread(number, place),
     }
 }
 
-pub fn state(of: IdState) {
-    match of {
-        IdState::Closed => closed(),
-        IdState::Open(balance) => opened(balance),
+pub fn state(balance: Option<u32>) {
+    match balance {
+        Some(balance) => opened(balance),
+        None => closed(),
     }
 }
 
@@ -50,9 +47,9 @@ fn closed() {
     word(b"closed\n");
 }
 
-fn refused(number: u8) {
+fn refused(refusal: Refusal) {
     word(b"refused");
-    decimal(number as u64);
+    decimal(refusal.number() as u64);
     line();
 }
 

@@ -11,11 +11,9 @@ use crate::{answers, script};
 pub fn replay(text: &[u8]) {
     let mut credits = credit_ledger::empty();
     let mut publishers = publisher_ledger::empty();
-    let mut at: usize = 0;
-    while at < text.len() {
-        let end = test_text::find(text, at, 0x0a);
-        call(&text[at..end], &mut credits, &mut publishers);
-        at = end + 1;
+    for line in text.split_inclusive(|byte| *byte == b'\n') {
+        let line = line.strip_suffix(b"\n").unwrap_or(line);
+        call(line, &mut credits, &mut publishers);
     }
 }
 

@@ -29,6 +29,7 @@ pub fn first_word(line: &[u8]) -> Word
     }
 }
 
+#[tactic(auto, unfolding(crate::specs::Words::word_of))]
 fn word_of(letters: u64) -> Word
     ensures { result ≡ word_of letters }
 {
