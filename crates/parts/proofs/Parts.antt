@@ -7,8 +7,8 @@ use mathlib.Core.Option.{Option, none, some}
 use Prim.Native.Nat.{ℕ, ◌+◌}
 use lib.ListN.{length}
 use borrow.Author.Tests.{le-ltb}
+use Rattle.std.proofs.Common.{None, Some}
 use Rattle.protocol.specs.Fields.{Field, Fields, bytes_at, over_places, value_in, EndsBy, PlacesEndBy}
-use Rattle.protocol.specs.declared.place.NullablePlace.TheVariants.{Null, At}
 use Rattle.protocol.specs.declared.place.Place.{Place}
 use Rattle.rules.specs.Exactness.{frame_length}
 use Rattle.rules.specs.Reading.{frame, read_frame}
@@ -41,5 +41,5 @@ pub parts_are_the_fields : PartsAreTheFields
 parts_are_the_fields s limit f e = parts_are_values s f.content (places_there s limit f e)
 
 pub nullable_part_is_the_field : NullablePartIsTheField
-nullable_part_is_the_field s Null = refl
-nullable_part_is_the_field s (At p) = refl
+nullable_part_is_the_field s None = refl
+nullable_part_is_the_field s (Some p) = refl

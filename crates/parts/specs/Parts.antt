@@ -1,10 +1,9 @@
 -- Parts of the source (01 "Numbers and text on the wire"): what stands at a place.
-use Rattle.std.specs.Prelude.{◌≡◌, cond, List, [], map, ℕ}
-use Rattle.std.proofs.Math.Option.{Option, none, some}
+use Rattle.std.specs.Prelude.{◌≡◌, cond, List, [], map, ℕ, Option, None, Some}
+use Rattle.std.proofs.Math.Option as maybe
+use Rattle.std.proofs.Math.Option.{none, some}
 use Rattle.protocol.specs.Fields.{Fields, bytes_at, outside, over_places, values_in}
 use Rattle.protocol.specs.Frames.{nullable_field}
-use Rattle.protocol.specs.declared.place.NullablePlace.{NullablePlace}
-use Rattle.protocol.specs.declared.place.NullablePlace.TheVariants.{Null, At}
 use Rattle.protocol.specs.declared.place.Place.{Place}
 use Rattle.rules.specs.Reading.{frame, read_frame}
 
@@ -13,12 +12,12 @@ abbrev pub part_at : List ℕ → Place → List ℕ
 part_at s p = cond (outside p s) [] (bytes_at s p)
 
 -- The part of the source at a place; a null gives an empty one.
-abbrev pub nullable_part : List ℕ → NullablePlace → List ℕ
-nullable_part s Null = []
-nullable_part s (At p) = part_at s p
+abbrev pub nullable_part : List ℕ → Option Place → List ℕ
+nullable_part s None = []
+nullable_part s (Some p) = part_at s p
 
 -- The bytes of a text or byte string; none for a null.
-abbrev pub text_of : Option (List ℕ) → List ℕ
+abbrev pub text_of : maybe.Option (List ℕ) → List ℕ
 text_of none = []
 text_of (some b) = b
 
@@ -30,4 +29,4 @@ PartsAreTheFields =
 
 -- The part of a place that may be null is the part of the field that it stands for; a null's is empty.
 abbrev pub NullablePartIsTheField : Type 0
-NullablePartIsTheField = (s : List ℕ) (p : NullablePlace) → nullable_part s p ≡ text_of (over_places (part_at s) (nullable_field p)).octets
+NullablePartIsTheField = (s : List ℕ) (p : Option Place) → nullable_part s p ≡ text_of (over_places (part_at s) (nullable_field p)).octets

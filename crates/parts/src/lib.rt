@@ -5,7 +5,7 @@ ghost use Rattle.std.specs.Prelude.{◌≡◌};
 ghost use Rattle.parts.specs.Parts.{nullable_part, part_at};
 
 use fields::is_outside;
-use protocol::{NullablePlace, Place};
+use protocol::Place;
 
 // The bytes at a place; an empty part where the place reaches outside.
 pub fn part(s: &[u8], p: Place) -> &[u8]
@@ -20,11 +20,11 @@ pub fn part(s: &[u8], p: Place) -> &[u8]
 }
 
 // A null gives an empty part.
-pub fn nullable_part(s: &[u8], p: NullablePlace) -> &[u8]
+pub fn nullable_part(s: &[u8], p: Option<Place>) -> &[u8]
     ensures { result.now ≡ nullable_part s.now p }
 {
     match p {
-        NullablePlace::Null => &s[..0],
-        NullablePlace::At(place) => part(s, place),
+        None => &s[..0],
+        Some(place) => part(s, place),
     }
 }
