@@ -12,7 +12,7 @@ use Rattle.protocol.proofs.Refused.{some_number}
 use Rattle.rules.specs.Outcome.{Outcome, got, refused, then, repeated}
 use Rattle.rules.specs.Writing.{Encoding, used_up}
 use Rattle.rules.proofs.Bounds.{Numbered}
-use Rattle.byte_strings.specs.Stops.{Stop, end_of, stop, stop_at, told, refusal_of}
+use Rattle.byte_strings.specs.Stops.{Stop, end_of, only_end, stop, stop_at, told, refusal_of}
 use Rattle.byte_strings.specs.declared.fault.Fault.{Fault}
 
 module _ {A : Type 0} (o : Outcome A) where
@@ -66,14 +66,35 @@ module _ {A B : Type 0} (o : Outcome A) (f : A → ℕ → Outcome B) where
 
 -- ---- Loops
 
+-- What each of them is makes no difference to where they end, or why they are refused.
+module _ {A : Type 0} (o : Outcome A) where
+  pub only_end_of : end_of (only_end o) ≡ end_of o
+  only_end_of = by o
+    where
+      by : (p : Outcome A) → end_of (only_end p) ≡ end_of p
+      by (got a next) = refl
+      by (refused n at) = refl
+
+  pub only_stop : stop (only_end o) ≡ stop o
+  only_stop = by o
+    where
+      by : (p : Outcome A) → stop (only_end p) ≡ stop p
+      by (got a next) = refl
+      by (refused n at) = refl
+
+pub repeated_ends : {A : Type 0} (read : List ℕ → ℕ → Outcome A) (n : ℕ) (s : List ℕ) (at : ℕ) → repeated (λ t from. only_end (read t from)) n s at ≡ repeated read n s at
+unfolding repeated
+repeated_ends read zero s at = refl
+repeated_ends {A} read (suc n) s at = by (read s at) (λ next. repeated_ends read n s next)
+  where
+    by : (o : Outcome A) → ((next : ℕ) → repeated (λ t from. only_end (read t from)) n s next ≡ repeated read n s next) → then (only_end o) (λ a next. repeated (λ t from. only_end (read t from)) n s next) ≡ then o (λ a next. repeated read n s next)
+    by (got a next) rest = rest next
+    by (refused m p) rest = refl
+
 module _ {A : Type 0} (read : List ℕ → ℕ → Outcome A) (s : List ℕ) where
   pub none_left : (left at : ℕ) → left ≡ 0 → told (Ok at) ≡ stop (repeated read left s at)
   unfolding repeated
   none_left left at z = rw z
-
-  pub none_left_plain : (left at : ℕ) → left ≡ 0 → Some at ≡ end_of (repeated read left s at)
-  unfolding repeated
-  none_left_plain left at z = rw z
 
   -- One that was read, and those after it.
   pub after_one : (left at next : ℕ) (a : A) → (left ≡ 0 → ⊥) → read s at ≡ got a next → repeated read left s at ≡ repeated read (left - 1) s next
@@ -87,21 +108,14 @@ module _ {A : Type 0} (read : List ℕ → ℕ → Outcome A) (s : List ℕ) whe
   at_one zero at m p z e = absurd (z refl)
   at_one (suc n) at m p z e = rw e
 
-  -- A loop that asks for the plain place after each.
+  -- A loop that asks for the end of each.
   module _ (left at : ℕ) (z : left ≡ 0 → ⊥) where
     pub after_end : (e : ℕ) → Some e ≡ end_of (read s at) → repeated read (left - 1) s e ≡ repeated read left s at
     after_end e i = let r = ended (read s at) e i in sym (after_one left at e r.0 z r.1)
 
-    pub stops_plain : None ≡ end_of (read s at) → None ≡ end_of (repeated read left s at)
-    stops_plain i = let r = not_ended (read s at) i in ap end_of (sym (at_one left at r.0 r.1 z r.2))
-
-    -- A refusal of one is that of all.
-    pub stops_told : (e : Fault) → told (Err e) ≡ stop (read s at) → told (Err e) ≡ stop (repeated read left s at)
-    stops_told e i = ap stop (sym (at_one left at (number_of e.refusal) e.at z (refused_at (read s at) e i)))
-
-    -- A loop that asks for the reason too.
-    pub after_told : Numbered (read s at) → (e : ℕ) → told (Ok e) ≡ stop (read s at) → repeated read (left - 1) s e ≡ repeated read left s at
-    after_told n e i = let r = read_to (read s at) e n i in sym (after_one left at e r.0 z r.1)
+    -- Where one is not read, all are not.
+    pub stops_all : None ≡ end_of (read s at) → stop (read s at) ≡ stop (repeated read left s at)
+    stops_all i = let r = not_ended (read s at) i in ap stop r.2 ∙ ap stop (sym (at_one left at r.0 r.1 z r.2))
 
 -- ---- Pieces that are written: their refusal, or 11 if bytes of the part are left, or what comes after them
 

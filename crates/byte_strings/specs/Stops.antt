@@ -28,6 +28,11 @@ abbrev pub end_of : {A : Type 0} → Outcome A → Option ℕ
 end_of (got a next) = Some next
 end_of (refused n at) = None
 
+-- What is read, of which only the end counts, or why it is refused.
+abbrev pub only_end : {A : Type 0} → Outcome A → Outcome Unit
+only_end (got a next) = got tt next
+only_end (refused n at) = refused n at
+
 -- The number with which an encoding is refused; 0 where it is not.
 abbrev pub refusal_of : Encoding → ℕ
 refusal_of (wrote b) = 0

@@ -4,8 +4,10 @@
 
 mod ends;
 mod fault;
+mod item;
 mod string;
 
 pub use ends::{after_bytes, after_reference, after_text, string_end};
 pub use fault::Fault;
+pub use item::{Item, items_end};
 pub use string::{check_string, is_null, is_string, length_width, minus_one};
