@@ -1,5 +1,4 @@
 -- What is proved of the flat form, and what the proofs of several functions use.
-pub mod Widening
 pub mod Behind
 pub mod Inverse
 pub mod Padding
