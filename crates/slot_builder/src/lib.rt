@@ -7,7 +7,7 @@ ghost use Rattle.slots.specs.Flat.{flat_header, flat_octets, flat_offset, flat_p
 ghost use Rattle.slots.specs.Inverse.{SignedHeader, SignedOffset};
 ghost use Rattle.slot_builder.specs.Built.{started, appended};
 
-use protocol::{Chunk, Elements, NullablePlace, OffsetSpecification, Place, ResponseCode};
+use protocol::{Chunk, Elements, OffsetSpecification, Place, ResponseCode};
 use slots::{flat_chunk, flat_offset, place_or_null, put_slots};
 
 // The first slots are used, and the others are 0.
@@ -57,7 +57,7 @@ impl Builder {
         self.append(&[p.at as u64, p.len as u64])
     }
 
-    pub fn nullable(self, o: NullablePlace) -> Builder
+    pub fn nullable(self, o: Option<Place>) -> Builder
         ensures { result ≡ appended self (flat_octets true (nullable_field o).octets) }
     {
         self.place(place_or_null(o))
@@ -73,8 +73,7 @@ impl Builder {
         ensures value { result ≡ appended self (flat_offset s) }
         ensures signed_offset { SignedOffset s }
     {
-        let s = flat_offset(s);
-        self.append(&[s.kind, s.value])
+        self.append(&flat_offset(s))
     }
 
     pub fn chunk(self, chunk: Chunk) -> Builder

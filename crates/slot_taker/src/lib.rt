@@ -9,9 +9,7 @@ ghost use Rattle.slots.specs.Unflat.{slot, unflat_octets, unflat_offset};
 ghost use Rattle.slot_taker.specs.Taken.{Taken};
 ghost use Rattle.slot_taker.specs.Typed.{typed_header};
 
-use protocol::{
-    Chunk, ChunkHeader, Elements, NullablePlace, OffsetSpecification, Place, ResponseCode,
-};
+use protocol::{Chunk, ChunkHeader, Elements, OffsetSpecification, Place, ResponseCode};
 use slots::{list_of, nullable_of, offset_of, place_of};
 use wire::Unsigned;
 
@@ -101,7 +99,7 @@ impl<'a> Taker<'a> {
     pub fn code(&mut self) -> ResponseCode
         ensures { Taken 1 self.old.slots.now self.new.slots.now (λ l. result.number ≡ slot l 0 % 0x1_0000) }
     {
-        ResponseCode::from_number(self.number())
+        ResponseCode::from(self.number::<u16>())
     }
 
     pub fn place(&mut self) -> Place
@@ -110,7 +108,7 @@ impl<'a> Taker<'a> {
         place_of(self.slot(), self.slot())
     }
 
-    pub fn nullable(&mut self) -> NullablePlace
+    pub fn nullable(&mut self) -> Option<Place>
         ensures { Taken 2 self.old.slots.now self.new.slots.now (λ l. nullable_field result ≡ F.string (unflat_octets true (slot l 0) (slot l 1))) }
     {
         nullable_of(self.slot(), self.slot())
