@@ -17,47 +17,44 @@ pub struct Builder {
     pub used: usize,
 }
 
-// A frame without a correlation id, or of version 2.
-pub fn headed(key: u64, version: u64) -> Builder
-    ensures { result ≡ started (key ∷ version ∷ []) }
-{
-    let mut slots = [0u64; 24];
-    slots[0] = key;
-    slots[1] = version;
-    Builder {
-        slots: slots,
-        used: 2,
-    }
-}
-
-// Version 1, and the correlation id.
-pub fn request(key: u64, correlation_id: u32) -> Builder
-    ensures { result ≡ started (key ∷ 1 ∷ correlation_id ∷ []) }
-{
-    headed(key, 1).number(correlation_id as u64)
-}
-
-// Version 1, the correlation id, and the response code.
-pub fn response(key: u64, correlation_id: u32, code: ResponseCode) -> Builder
-    ensures { result ≡ started (key ∷ 1 ∷ correlation_id ∷ code.number ∷ []) }
-{
-    let number = code.number as u64;
-    request(key, correlation_id).number(number)
-}
-
 impl Builder {
+    // A frame without a correlation id, or of version 2.
+    #[tactic(auto, unfolding(crate::specs::Built::started, slots::specs::Flat::padded))]
+    pub fn headed(key: u64, version: u64) -> Builder
+        ensures { result ≡ started (key ∷ version ∷ []) }
+    {
+        let mut slots = [0u64; 24];
+        slots[0] = key;
+        slots[1] = version;
+        Builder { slots, used: 2 }
+    }
+
+    // Version 1, and the correlation id.
+    #[tactic(auto, using(crate::proofs::Built::appended_started))]
+    pub fn request(key: u64, correlation_id: u32) -> Builder
+        ensures { result ≡ started (key ∷ 1 ∷ correlation_id ∷ []) }
+    {
+        Builder::headed(key, 1).number(correlation_id as u64)
+    }
+
+    // Version 1, the correlation id, and the response code.
+    #[tactic(auto, using(crate::proofs::Built::appended_started))]
+    pub fn response(key: u64, correlation_id: u32, code: ResponseCode) -> Builder
+        ensures { result ≡ started (key ∷ 1 ∷ correlation_id ∷ code.number ∷ []) }
+    {
+        Builder::request(key, correlation_id).number(code.number as u64)
+    }
+
     pub fn number(self, x: u64) -> Builder
         ensures { result ≡ appended self (x ∷ []) }
     {
-        let values = [x];
-        self.append(&values)
+        self.append(&[x])
     }
 
     pub fn place(self, p: Place) -> Builder
         ensures { result ≡ appended self (flat_place p) }
     {
-        let values = [p.at as u64, p.len as u64];
-        self.append(&values)
+        self.append(&[p.at as u64, p.len as u64])
     }
 
     pub fn nullable(self, o: NullablePlace) -> Builder
@@ -69,9 +66,7 @@ impl Builder {
     pub fn list(self, l: Elements) -> Builder
         ensures { result ≡ appended self (l.count ∷ flat_place l.place) }
     {
-        let p = l.place;
-        let values = [l.count as u64, p.at as u64, p.len as u64];
-        self.append(&values)
+        self.append(&[l.count as u64, l.place.at as u64, l.place.len as u64])
     }
 
     pub fn offset(self, s: OffsetSpecification) -> Builder
@@ -79,37 +74,28 @@ impl Builder {
         ensures signed_offset { SignedOffset s }
     {
         let s = flat_offset(s);
-        let values = [s.kind, s.value];
-        self.append(&values)
+        self.append(&[s.kind, s.value])
     }
 
     pub fn chunk(self, chunk: Chunk) -> Builder
         ensures value { result ≡ appended self (flat_header chunk.header ++ flat_place chunk.«data») }
         ensures signed_header { SignedHeader chunk.header }
     {
-        let header = chunk.header;
-        let data = chunk.data;
-        let values = flat_chunk(header, data);
-        self.append(&values)
+        self.append(&flat_chunk(chunk.header, chunk.data))
     }
 
     // Where there is no room for all, none is put.
+    #[tactic(auto, using(slots::proofs::Overlaid::all_fit), unfolding(crate::specs::Built::appended))]
     fn append(self, values: &[u64]) -> Builder
         ensures { result ≡ appended self values.now }
     {
-        let mut slots = self.slots;
-        let used = self.used;
-        let count = values.len();
-        if 24 < count {
-            return self;
-        }
-        if 24 - count < used {
-            return self;
-        }
-        put_slots(&mut slots, used, values);
-        Builder {
-            slots: slots,
-            used: used + count,
+        match self.used.checked_add(values.len()) {
+            Some(used) if used <= 24 => {
+                let mut slots = self.slots;
+                put_slots(&mut slots, self.used, values);
+                Builder { slots, used }
+            }
+            _ => self,
         }
     }
 }

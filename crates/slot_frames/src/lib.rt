@@ -6,7 +6,7 @@ ghost use Rattle.protocol.specs.Frames.{fields_of};
 ghost use Rattle.slot_taker.specs.Typed.{typed_fields, typed_frame};
 
 use protocol::Frame;
-use slot_taker::{CONTENT, take_chunk, take_list, take_u8, take_u64};
+use slot_taker::Taker;
 
 // Where key and version are not listed, a Heartbeat. No frame that is read has such.
 pub fn frame_of(slots: &[u64; 24]) -> Frame
@@ -45,16 +45,16 @@ fn first_version(key: u64, slots: &[u64]) -> Frame
 fn second_version(key: u64, slots: &[u64]) -> Frame
     ensures { fields_of result ≡ typed_fields key 2 slots.now }
 {
-    let mut at = CONTENT;
+    let mut fields = Taker::content(slots);
     match key {
         0x0002 => Frame::PublishV2 {
-            publisher_id: take_u8(slots, &mut at),
-            messages: take_list(slots, &mut at),
+            publisher_id: fields.number(),
+            messages: fields.list(),
         },
         0x0008 => Frame::DeliverV2 {
-            subscription_id: take_u8(slots, &mut at),
-            committed_chunk_id: take_u64(slots, &mut at),
-            chunk: take_chunk(slots, &mut at),
+            subscription_id: fields.number(),
+            committed_chunk_id: fields.number(),
+            chunk: fields.chunk(),
         },
         _ => Frame::Heartbeat,
     }

@@ -23,10 +23,7 @@ pub fn read(bytes: &[u8], limit: u32) -> Reading
     let mut slots = [0u64; 24];
     match frame_reading::read(bytes, limit, &mut slots) {
         FrameRead::Frame => Reading::Frame(frame_of(&slots)),
-        FrameRead::Short { needed } => Reading::Short { needed: needed },
-        FrameRead::Refused { number, place } => Reading::Refused {
-            number: number,
-            place: place,
-        },
+        FrameRead::Short { needed } => Reading::Short { needed },
+        FrameRead::Refused { number, place } => Reading::Refused { number, place },
     }
 }

@@ -12,6 +12,5 @@ use typed_slots::frame_slots;
 pub fn write(frame: Frame, src: &[u8], limit: u32, out: &mut [u8]) -> Written
     ensures { writing_of result out.new ≡ write_frame (fields_of frame) src.now limit out.old }
 {
-    let slots = frame_slots(frame);
-    frame_writing::write(&slots, src, limit, out)
+    frame_writing::write(&frame_slots(frame), src, limit, out)
 }

@@ -1,24 +1,23 @@
 // A frame's slots: key, version, then the fields of its content in wire order.
 #![tactic(auto)]
 
-ghost use Rattle.std.specs.Prelude.{cond, ◌≡◌};
+ghost use Rattle.std.specs.Prelude.{◌≡◌};
 ghost use Rattle.protocol.specs.Frames.{fields_of};
 ghost use Rattle.slots.specs.Flat.{flat_frame};
 ghost use Rattle.slots.specs.Inverse.{SignedFrame};
 
 use protocol::Frame;
-use slot_builder::{Builder, headed, request, response};
+use slot_builder::Builder;
 
 pub fn frame_slots(frame: Frame) -> [u64; 24]
     ensures value { result ≡ flat_frame (fields_of frame) }
     ensures signed_frame { SignedFrame (fields_of frame) }
 {
-    let filled = filled(frame);
-    let slots = filled.slots;
-    slots
+    filled(frame).slots
 }
 
 // An arm lists its fields as its row in the table does.
+#[tactic(auto, using(slot_builder::proofs::Built::appended_started), unfolding(slot_builder::specs::Built::started, slots::specs::Flat::flat_frame, protocol::specs::Table::table, protocol::specs::Table::row_in))]
 fn filled(frame: Frame) -> Builder
     ensures slots_value { result.slots ≡ flat_frame (fields_of frame) }
     ensures signed_frame { SignedFrame (fields_of frame) }
@@ -29,39 +28,45 @@ fn filled(frame: Frame) -> Builder
             publisher_id,
             reference,
             stream,
-        } => request(0x0001, correlation_id)
+        } => Builder::request(0x0001, correlation_id)
             .number(publisher_id as u64)
             .nullable(reference)
             .place(stream),
         Frame::Publish {
             publisher_id,
             messages,
-        } => headed(0x0002, 1).number(publisher_id as u64).list(messages),
+        } => Builder::headed(0x0002, 1)
+            .number(publisher_id as u64)
+            .list(messages),
         Frame::PublishV2 {
             publisher_id,
             messages,
-        } => headed(0x0002, 2).number(publisher_id as u64).list(messages),
+        } => Builder::headed(0x0002, 2)
+            .number(publisher_id as u64)
+            .list(messages),
         Frame::PublishConfirm {
             publisher_id,
             publishing_ids,
-        } => headed(0x0003, 1)
+        } => Builder::headed(0x0003, 1)
             .number(publisher_id as u64)
             .list(publishing_ids),
         Frame::PublishError {
             publisher_id,
             errors,
-        } => headed(0x0004, 1).number(publisher_id as u64).list(errors),
+        } => Builder::headed(0x0004, 1)
+            .number(publisher_id as u64)
+            .list(errors),
         Frame::QueryPublisher {
             correlation_id,
             reference,
             stream,
-        } => request(0x0005, correlation_id)
+        } => Builder::request(0x0005, correlation_id)
             .place(reference)
             .place(stream),
         Frame::DeletePublisher {
             correlation_id,
             publisher_id,
-        } => request(0x0006, correlation_id).number(publisher_id as u64),
+        } => Builder::request(0x0006, correlation_id).number(publisher_id as u64),
         Frame::Subscribe {
             correlation_id,
             subscription_id,
@@ -69,7 +74,7 @@ fn filled(frame: Frame) -> Builder
             offset,
             credit,
             properties,
-        } => request(0x0007, correlation_id)
+        } => Builder::request(0x0007, correlation_id)
             .number(subscription_id as u64)
             .place(stream)
             .offset(offset)
@@ -78,28 +83,28 @@ fn filled(frame: Frame) -> Builder
         Frame::Deliver {
             subscription_id,
             chunk,
-        } => headed(0x0008, 1)
+        } => Builder::headed(0x0008, 1)
             .number(subscription_id as u64)
             .chunk(chunk),
         Frame::DeliverV2 {
             subscription_id,
             committed_chunk_id,
             chunk,
-        } => headed(0x0008, 2)
+        } => Builder::headed(0x0008, 2)
             .number(subscription_id as u64)
             .number(committed_chunk_id)
             .chunk(chunk),
         Frame::Credit {
             subscription_id,
             credit,
-        } => headed(0x0009, 1)
+        } => Builder::headed(0x0009, 1)
             .number(subscription_id as u64)
             .number(credit as u64),
         Frame::StoreOffset {
             reference,
             stream,
             offset,
-        } => headed(0x000a, 1)
+        } => Builder::headed(0x000a, 1)
             .place(reference)
             .place(stream)
             .number(offset),
@@ -107,94 +112,94 @@ fn filled(frame: Frame) -> Builder
             correlation_id,
             reference,
             stream,
-        } => request(0x000b, correlation_id)
+        } => Builder::request(0x000b, correlation_id)
             .place(reference)
             .place(stream),
         Frame::Unsubscribe {
             correlation_id,
             subscription_id,
-        } => request(0x000c, correlation_id).number(subscription_id as u64),
+        } => Builder::request(0x000c, correlation_id).number(subscription_id as u64),
         Frame::Create {
             correlation_id,
             stream,
             arguments,
-        } => request(0x000d, correlation_id)
+        } => Builder::request(0x000d, correlation_id)
             .place(stream)
             .list(arguments),
         Frame::Delete {
             correlation_id,
             stream,
-        } => request(0x000e, correlation_id).place(stream),
+        } => Builder::request(0x000e, correlation_id).place(stream),
         Frame::Metadata {
             correlation_id,
             streams,
-        } => request(0x000f, correlation_id).list(streams),
-        Frame::MetadataUpdate { code, stream } => headed(0x0010, 1)
+        } => Builder::request(0x000f, correlation_id).list(streams),
+        Frame::MetadataUpdate { code, stream } => Builder::headed(0x0010, 1)
             .number(code as u64)
             .place(stream),
         Frame::PeerProperties {
             correlation_id,
             properties,
-        } => request(0x0011, correlation_id).list(properties),
-        Frame::SaslHandshake { correlation_id } => request(0x0012, correlation_id),
+        } => Builder::request(0x0011, correlation_id).list(properties),
+        Frame::SaslHandshake { correlation_id } => Builder::request(0x0012, correlation_id),
         Frame::SaslAuthenticate {
             correlation_id,
             mechanism,
             opaque,
-        } => request(0x0013, correlation_id)
+        } => Builder::request(0x0013, correlation_id)
             .place(mechanism)
             .nullable(opaque),
         Frame::Tune {
             frame_max,
             heartbeat,
-        } => headed(0x0014, 1)
+        } => Builder::headed(0x0014, 1)
             .number(frame_max as u64)
             .number(heartbeat as u64),
         Frame::Open {
             correlation_id,
             virtual_host,
-        } => request(0x0015, correlation_id).place(virtual_host),
+        } => Builder::request(0x0015, correlation_id).place(virtual_host),
         Frame::Close {
             correlation_id,
             closing_code,
             closing_reason,
-        } => request(0x0016, correlation_id)
+        } => Builder::request(0x0016, correlation_id)
             .number(closing_code as u64)
             .place(closing_reason),
-        Frame::Heartbeat => headed(0x0017, 1),
+        Frame::Heartbeat => Builder::headed(0x0017, 1),
         Frame::Route {
             correlation_id,
             routing_key,
             super_stream,
-        } => request(0x0018, correlation_id)
+        } => Builder::request(0x0018, correlation_id)
             .place(routing_key)
             .place(super_stream),
         Frame::Partitions {
             correlation_id,
             super_stream,
-        } => request(0x0019, correlation_id).place(super_stream),
+        } => Builder::request(0x0019, correlation_id).place(super_stream),
         Frame::ConsumerUpdate {
             correlation_id,
             subscription_id,
             active,
-        } => request(0x001a, correlation_id)
+        } => Builder::request(0x001a, correlation_id)
             .number(subscription_id as u64)
-            .number(flag(active)),
+            .number(active as u64),
         Frame::ExchangeCommandVersions {
             correlation_id,
             commands,
-        } => request(0x001b, correlation_id).list(commands),
+        } => Builder::request(0x001b, correlation_id).list(commands),
         Frame::StreamStats {
             correlation_id,
             stream,
-        } => request(0x001c, correlation_id).place(stream),
+        } => Builder::request(0x001c, correlation_id).place(stream),
         Frame::CreateSuperStream {
             correlation_id,
             name,
             partitions,
             binding_keys,
             arguments,
-        } => request(0x001d, correlation_id)
+        } => Builder::request(0x001d, correlation_id)
             .place(name)
             .list(partitions)
             .list(binding_keys)
@@ -202,120 +207,116 @@ fn filled(frame: Frame) -> Builder
         Frame::DeleteSuperStream {
             correlation_id,
             name,
-        } => request(0x001e, correlation_id).place(name),
+        } => Builder::request(0x001e, correlation_id).place(name),
         Frame::DeclarePublisherResponse {
             correlation_id,
             code,
-        } => response(0x8001, correlation_id, code),
+        } => Builder::response(0x8001, correlation_id, code),
         Frame::QueryPublisherResponse {
             correlation_id,
             code,
             sequence,
-        } => response(0x8005, correlation_id, code).number(sequence),
+        } => Builder::response(0x8005, correlation_id, code).number(sequence),
         Frame::DeletePublisherResponse {
             correlation_id,
             code,
-        } => response(0x8006, correlation_id, code),
+        } => Builder::response(0x8006, correlation_id, code),
         Frame::SubscribeResponse {
             correlation_id,
             code,
-        } => response(0x8007, correlation_id, code),
+        } => Builder::response(0x8007, correlation_id, code),
         Frame::CreditResponse {
             code,
             subscription_id,
-        } => headed(0x8009, 1)
+        } => Builder::headed(0x8009, 1)
             .number(code.number as u64)
             .number(subscription_id as u64),
         Frame::QueryOffsetResponse {
             correlation_id,
             code,
             offset,
-        } => response(0x800b, correlation_id, code).number(offset),
+        } => Builder::response(0x800b, correlation_id, code).number(offset),
         Frame::UnsubscribeResponse {
             correlation_id,
             code,
-        } => response(0x800c, correlation_id, code),
+        } => Builder::response(0x800c, correlation_id, code),
         Frame::CreateResponse {
             correlation_id,
             code,
-        } => response(0x800d, correlation_id, code),
+        } => Builder::response(0x800d, correlation_id, code),
         Frame::DeleteResponse {
             correlation_id,
             code,
-        } => response(0x800e, correlation_id, code),
+        } => Builder::response(0x800e, correlation_id, code),
         Frame::MetadataResponse {
             correlation_id,
             brokers,
             streams,
-        } => request(0x800f, correlation_id).list(brokers).list(streams),
+        } => Builder::request(0x800f, correlation_id)
+            .list(brokers)
+            .list(streams),
         Frame::PeerPropertiesResponse {
             correlation_id,
             code,
             properties,
-        } => response(0x8011, correlation_id, code).list(properties),
+        } => Builder::response(0x8011, correlation_id, code).list(properties),
         Frame::SaslHandshakeResponse {
             correlation_id,
             code,
             mechanisms,
-        } => response(0x8012, correlation_id, code).list(mechanisms),
+        } => Builder::response(0x8012, correlation_id, code).list(mechanisms),
         Frame::SaslAuthenticateResponse {
             correlation_id,
             code,
             opaque,
-        } => response(0x8013, correlation_id, code).nullable(opaque),
+        } => Builder::response(0x8013, correlation_id, code).nullable(opaque),
         Frame::TuneResponse {
             frame_max,
             heartbeat,
-        } => headed(0x8014, 1)
+        } => Builder::headed(0x8014, 1)
             .number(frame_max as u64)
             .number(heartbeat as u64),
         Frame::OpenResponse {
             correlation_id,
             code,
             properties,
-        } => response(0x8015, correlation_id, code).list(properties),
+        } => Builder::response(0x8015, correlation_id, code).list(properties),
         Frame::CloseResponse {
             correlation_id,
             code,
-        } => response(0x8016, correlation_id, code),
+        } => Builder::response(0x8016, correlation_id, code),
         Frame::RouteResponse {
             correlation_id,
             code,
             streams,
-        } => response(0x8018, correlation_id, code).list(streams),
+        } => Builder::response(0x8018, correlation_id, code).list(streams),
         Frame::PartitionsResponse {
             correlation_id,
             code,
             streams,
-        } => response(0x8019, correlation_id, code).list(streams),
+        } => Builder::response(0x8019, correlation_id, code).list(streams),
         Frame::ConsumerUpdateResponse {
             correlation_id,
             code,
             offset,
-        } => response(0x801a, correlation_id, code).offset(offset),
+        } => Builder::response(0x801a, correlation_id, code).offset(offset),
         Frame::ExchangeCommandVersionsResponse {
             correlation_id,
             code,
             commands,
-        } => response(0x801b, correlation_id, code).list(commands),
+        } => Builder::response(0x801b, correlation_id, code).list(commands),
         Frame::StreamStatsResponse {
             correlation_id,
             code,
             statistics,
-        } => response(0x801c, correlation_id, code).list(statistics),
+        } => Builder::response(0x801c, correlation_id, code).list(statistics),
         Frame::CreateSuperStreamResponse {
             correlation_id,
             code,
-        } => response(0x801d, correlation_id, code),
+        } => Builder::response(0x801d, correlation_id, code),
         Frame::DeleteSuperStreamResponse {
             correlation_id,
             code,
-        } => response(0x801e, correlation_id, code),
+        } => Builder::response(0x801e, correlation_id, code),
     }
-}
-
-fn flag(x: bool) -> u64
-    ensures { result ≡ cond x 1 0 }
-{
-    if x { 1 } else { 0 }
 }
