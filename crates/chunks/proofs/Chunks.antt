@@ -18,8 +18,7 @@ use Rattle.protocol.specs.Refusals.{field_cut, value_not_admitted, bytes_left}
 use Rattle.rules.specs.Outcome.{Outcome, got, refused, then, refuse_if, repeated}
 use Rattle.rules.specs.Reading.{header_at, is_chunk_type, has_entries, read_entry, read_entries, read_data, read_headed, read_chunk}
 use Rattle.rules.proofs.Bounds.{Numbered, numbered, Bounded, bounded_data}
-use Rattle.byte_strings.specs.Stops.{stop, stop_at}
-use Rattle.byte_strings.specs.declared.stop.Stop.{Stop}
+use Rattle.byte_strings.specs.Stops.{Stop, stop, stop_at}
 use Rattle.chunks.specs.Entries.{entries_from}
 
 -- After the header.
@@ -95,6 +94,10 @@ module _ (s : List ℕ) (at : ℕ) where
   pub header_cut : length s < at + 48 → stop_at at field_cut ≡ stop (read_chunk s at)
   unfolding read_chunk
   header_cut l = rw (lt-ltb (length s) (at + 48) l)
+
+  pub header_stops : (d : Stop) → at + 48 ≤ length s → d ≡ stop (read_headed (header_at s at) s at) → d ≡ stop (read_chunk s at)
+  unfolding read_chunk
+  header_stops d l e = e ∙ rw (le-ltb (length s) (at + 48) l)
 
   pub header_there : at + 48 ≤ length s → read_chunk s at ≡ read_headed (header_at s at) s at
   unfolding read_chunk

@@ -1,12 +1,13 @@
 -- An entry's reader goes through the definition's checks one by one; and so does the walk over entries. Assumes nothing.
 use mathlib.Core.Path.{◌≡◌, refl, ◌∙◌, sym, ap, subst}
-use mathlib.Core.Bool.{Bool, true, false, not}
+use mathlib.Core.Bool.{Bool, true, false}
 use mathlib.Core.List.{List}
+use Rattle.std.specs.Prelude.{Option}
 use Prim.Native.Nat.{ℕ, ◌+◌, ◌-◌, ◌<◌, ◌≤◌}
 use native.Mathlib.Omega.{arith}
 use lib.Dec.{leb, ltb}
 use lib.ListN.{length}
-use borrow.Author.Tests.{eq-eqb, ne_eqb, le-leb, lt-leb, lt-ltb, le-ltb, leb-true, leb-false, ltb-true, ltb-false, not-true, not-false}
+use borrow.Author.Tests.{eq-eqb, ne_eqb, le-leb, lt-leb, lt-ltb, le-ltb, leb-true, leb-false, ltb-true, ltb-false}
 use Rattle.wire.specs.Integers.{big_endian, number_or_zero}
 use Rattle.wire.specs.Signed.{signed}
 use Rattle.wire.proofs.TwosComplement.{below_half, above_half}
@@ -20,11 +21,10 @@ use Rattle.rules.proofs.Bounds.{numbered_entry, numbered_repeated}
 use Rattle.rules.specs.Reading.{read_number, read_string, read_body, read_entry, has_entries}
 use Rattle.rules.proofs.Gives.{Gives, after_number, check}
 use Rattle.rules.proofs.Numbers.{number_there, number_cut}
-use Rattle.byte_strings.specs.Stops.{end_of, stop, stop_at}
-use Rattle.byte_strings.specs.declared.stop.Stop.{Stop}
+use Rattle.byte_strings.specs.Stops.{Stop, end_of, only_end, stop, stop_at}
 use Rattle.byte_strings.proofs.PlainEnds.{negative_end}
 use Rattle.byte_strings.proofs.StringFields.{body_cut, body_read}
-use Rattle.byte_strings.proofs.Stops.{passed, stopped}
+use Rattle.byte_strings.proofs.Stops.{only_end_of, passed, stopped}
 use Rattle.chunks.specs.Entries.{entries_from, entry_count}
 
 -- Behind the four bytes.
@@ -66,13 +66,16 @@ module _ (s : List ℕ) (at next : ℕ) where
       by false i true j = rw (below_half 4 x (leb-false _ _ i), body_cut Raw false s at next x refl (ltb-true _ _ j))
       by false i false j = rw (below_half 4 x (leb-false _ _ i), body_read Raw false s at next x refl (ltb-false _ _ j) refl)
 
-pub entry_end : (s : List ℕ) (at r : ℕ) → r ≡ end_of (read_string Raw false s at) → r ≡ end_of (read_entry s at)
+entry_end : (s : List ℕ) (at : ℕ) (r : Option ℕ) → r ≡ end_of (read_string Raw false s at) → r ≡ end_of (read_entry s at)
 unfolding read_string read_entry sized
 entry_end s at r e = e ∙ by (read_number 4 s at)
   where
     by : (o : Outcome ℕ) → end_of (then o (λ x next. read_body Raw false s at (signed 4 x) next)) ≡ end_of (then o (λ x next. sized s at x next))
     by (got x next) = same_end s at next x
     by (refused n p) = refl
+
+pub entry_after : (s : List ℕ) (at : ℕ) (r : Option ℕ) → r ≡ end_of (read_string Raw false s at) → r ≡ end_of (only_end (read_entry s at))
+entry_after s at r e = entry_end s at r e ∙ sym (only_end_of (read_entry s at))
 
 -- An entry that is not refused is read, and its message fills what is after its four bytes.
 pub record EntryRead (s : List ℕ) (at e : ℕ) : Type 0 where
@@ -129,10 +132,10 @@ module _ (entries records records_at : ℕ) (s : List ℕ) (start : ℕ) where
 
 -- How many a chunk has.
 module _ (s : List ℕ) (kind : ℕ) (r : Bool) (i : kind ≡ number_or_zero 1 s 1) (j : r ≡ has_entries (signed 1 kind)) where
-  pub closed : not r ≡ true → 0 ≡ entry_count s
+  pub closed : r ≡ false → 0 ≡ entry_count s
   unfolding entry_count
-  closed h = rw (← i, ← j, not-true r h)
+  closed h = rw (← i, ← j, h)
 
-  pub opened : not r ≡ false → number_or_zero 2 s 2 ≡ entry_count s
+  pub opened : r ≡ true → number_or_zero 2 s 2 ≡ entry_count s
   unfolding entry_count
-  opened h = rw (← i, ← j, not-false r h)
+  opened h = rw (← i, ← j, h)

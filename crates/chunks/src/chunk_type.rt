@@ -4,6 +4,7 @@ ghost use Rattle.rules.specs.Reading.{is_chunk_type, has_entries};
 ghost use Rattle.wire.specs.Signed.{signed};
 
 // Types are 0, 1, 2.
+#[tactic(auto, using(crate::proofs::ChunkTypes::type_bits))]
 pub fn is_chunk_type(t: u64) -> bool
     ensures { (n : ℕ) → result ≡ is_chunk_type (signed (suc n) t) }
 {
@@ -11,6 +12,7 @@ pub fn is_chunk_type(t: u64) -> bool
 }
 
 // Only a chunk of type 0 has entries.
+#[tactic(auto, using(crate::proofs::ChunkTypes::user_bits))]
 pub fn has_entries(t: u64) -> bool
     ensures { (n : ℕ) → result ≡ has_entries (signed (suc n) t) }
 {

@@ -32,8 +32,11 @@ pub fn spend(credits: &mut [u32; 257], subscription: Option<u8>) -> Result<(), R
     ensures refusal { number_of result ≡ refusal_for credits.old (id_of subscription) }
     ensures credits_after { credits.new ≡ spent credits.old (id_of subscription) }
 {
-    match subscription {
-        Some(id) => ledger::take(credits, id, 1, Refusal::NoCredit),
-        None => Ok(()),
+    let Some(id) = subscription else {
+        return Ok(());
+    };
+    if ledger::take(credits, id, 1)? {
+        return Ok(());
     }
+    Err(Refusal::NoCredit)
 }

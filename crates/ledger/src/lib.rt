@@ -2,11 +2,10 @@
 // behind the ids is not used. The credit ledger and the publisher ledger are made of these calls.
 #![tactic(auto)]
 
-ghost use Rattle.std.specs.Prelude.{◌≡◌, ◌<◌, IfSome};
-ghost use Rattle.protocol.specs.Refusals as refusals;
+ghost use Rattle.std.specs.Prelude.{◌≡◌, ◌<◌, ℕ, IfSome};
 ghost use Rattle.ledger.specs.Calls.{start, add, take, stop};
 ghost use Rattle.ledger.specs.Rules.{refusal, entry_at, ledger_at, empty, store};
-ghost use Rattle.ledger.specs.Answers.{number_of, entry_of};
+ghost use Rattle.ledger.specs.Answers.{number_of, number_taken, entry_of};
 
 use protocol::Refusal;
 
@@ -60,15 +59,18 @@ pub fn add(ledger: &mut [u32; 257], id: u8, n: u32) -> Result<(), Refusal>
     Ok(())
 }
 
-// Takes n from an open id's balance; `short` is the refusal where the balance is smaller.
-pub fn take(ledger: &mut [u32; 257], id: u8, n: u32, short: Refusal) -> Result<(), Refusal>
-    ensures refusal { number_of result ≡ refusal (take n (refusals.number_of short)) (entry_at ledger.old id) }
-    ensures ledger_after { ledger.new ≡ ledger_at ledger.old id (take n (refusals.number_of short)) }
+// Takes n from an open id's balance, and says whether the balance covered it; a smaller one stays. Each ledger has a refusal of
+// its own for that.
+pub fn take(ledger: &mut [u32; 257], id: u8, n: u32) -> Result<bool, Refusal>
+    ensures refusal { (short : ℕ) → number_taken short result ≡ refusal (take n short) (entry_at ledger.old id) }
+    ensures ledger_after { (short : ℕ) → ledger.new ≡ ledger_at ledger.old id (take n short) }
 {
     let balance = state(ledger, id).ok_or(Refusal::NotOpen)?;
-    let left = balance.checked_sub(n).ok_or(short)?;
-    put(ledger, id, Some(left));
-    Ok(())
+    if balance < n {
+        return Ok(false);
+    }
+    put(ledger, id, Some(balance - n));
+    Ok(true)
 }
 
 // Closes an id.

@@ -38,5 +38,8 @@ pub fn confirm(publishers: &mut [u32; 257], id: u8, n: u32) -> Result<(), Refusa
     ensures answer { answer_of result ≡ answer publishers.old (confirming id n) }
     ensures publishers_after { publishers.new ≡ after publishers.old (confirming id n) }
 {
-    ledger::take(publishers, id, n, Refusal::NotOut)
+    if ledger::take(publishers, id, n)? {
+        return Ok(());
+    }
+    Err(Refusal::NotOut)
 }

@@ -1,17 +1,18 @@
 -- How the code's state follows the ABNF: the row that a byte begins, and one byte after another. Assumes nothing.
 use mathlib.Core.Path.{◌≡◌, refl, ◌∙◌, sym, ap}
-use mathlib.Core.Bool.{Bool, true, false, cond, ◌&&◌}
+use mathlib.Core.Bool.{Bool, true, false, ◌&&◌}
 use mathlib.Core.List.{List, [], ◌∷◌}
-use mathlib.Core.Option.{none, some}
+use mathlib.Core.Option.{Option, none, some}
 use Prim.Native.Nat.{ℕ, zero, suc, ◌+◌, ◌-◌, ◌<◌, ◌≤◌}
 use native.Mathlib.Numerals.{add-one}
 use native.Mathlib.Omega.{arith}
 use lib.Dec.{leb, eqb, eqb-suc-zero}
 use lib.ListN.{length, get_or, drop, replicate, drop_of_length-le}
 use lib.Seq.{drop-cons}
-use borrow.Author.Tests.{le-leb, lt-leb, ne_eqb}
+use borrow.Author.Tests.{le-leb, lt-leb}
 use Rattle.utf8_text.specs.Utf8.{Range, ◌‥◌, within, tail, begun, characters, first, next, following, whole, utf8, ranges, expects}
 use Rattle.utf8_text.specs.declared.utf8.Pending.{Pending}
+use Rattle.std.specs.Prelude.{Some, None}
 
 pub inside : (low high b : ℕ) → low ≤ b → b ≤ high → within (low ‥ high) b ≡ true
 inside low high b p q = simp (le-leb low b p, le-leb b high q)
@@ -125,46 +126,54 @@ ranges_more : (n : ℕ) (r : Range) → 0 < n → ranges n r ≡ r ∷ replicate
 ranges_more zero r h = absurd (omega arith)
 ranges_more (suc n) r h = let e : suc n - 1 ≡ n = omega arith in rw e
 
-module _ (p : Pending) (b : ℕ) (right : p.left ≡ 255 → ⊥) (begun : p.left ≡ 0 → ⊥) where
-  expected : expects p ≡ some ((p.low ‥ p.high) ∷ replicate (p.left - 1) tail)
-  unfolding expects
-  expected = rw (ne_eqb p.left 255 right, ranges_more p.left (p.low ‥ p.high) (omega arith))
+pub between : (p : Pending) → p.left ≡ 0 → expects (Some p) ≡ some []
+unfolding expects
+between p h = rw h
 
-  pub out_of_range : within (p.low ‥ p.high) b ≡ false → none ≡ next (expects p) b
+module _ (p : Pending) (b : ℕ) (begun : p.left ≡ 0 → ⊥) where
+  expected : expects (Some p) ≡ some ((p.low ‥ p.high) ∷ replicate (p.left - 1) tail)
+  unfolding expects
+  expected = rw (ranges_more p.left (p.low ‥ p.high) (omega arith))
+
+  pub out_of_range : within (p.low ‥ p.high) b ≡ false → expects None ≡ next (expects (Some p)) b
+  unfolding expects
   out_of_range h = rw (expected, h)
 
-  pub in_range : p.left < 256 → p.low ≤ b → b ≤ p.high → expects (record { left = p.left - 1; low = 0x80; high = 0xbf }) ≡ next (expects p) b
+  pub in_range : p.low ≤ b → b ≤ p.high → expects (Some (record { left = p.left - 1; low = 0x80; high = 0xbf })) ≡ next (expects (Some p)) b
   unfolding expects
-  in_range l h k =
+  in_range h k =
       rw (
         expected,
-        ne_eqb (p.left - 1) 255 (λ e. omega arith),
         ranges_tail (p.left - 1),
         le-leb p.low b h,
         le-leb b p.high k,
       )
 
--- The loop over a text: its start, a turn, and its end.
-pub start : (s : List ℕ) (p : Pending) → p ≡ record { left = 0; low = 0x80; high = 0xbf } → following (some []) s ≡ following (expects p) (drop 0 s)
+-- The loop over a text: its start, a turn, a byte that nothing can make right, and its end.
+pub start : (s : List ℕ) (p : Pending) → p ≡ record { left = 0; low = 0x80; high = 0xbf } → following (some []) s ≡ following (expects (Some p)) (drop 0 s)
 unfolding expects
 start s p e = rw e
 
-pub turn : (s : List ℕ) (i : ℕ) (p q : Pending) → i < length s → following (some []) s ≡ following (expects p) (drop i s) → expects q ≡ next (expects p) (get_or s i 0) → following (some []) s ≡ following (expects q) (drop (i + 1) s)
+step : (s : List ℕ) (i : ℕ) (o : Option (List Range)) → i < length s → following (some []) s ≡ following o (drop i s) → following (some []) s ≡ following (next o (get_or s i 0)) (drop (i + 1) s)
 unfolding following
-turn s i p q h e f = rw (add-one, f) (e ∙ ap (following (expects p)) (drop-cons s i 0 h))
+step s i o h e = rw add-one (e ∙ ap (following o) (drop-cons s i 0 h))
 
-whole_ranges : (n : ℕ) (r : Range) → eqb n 0 ≡ whole (cond (eqb n 255) none (some (ranges n r)))
-whole_ranges zero r = refl
-whole_ranges (suc n) r = rw eqb-suc-zero (either (eqb (suc n) 255))
-  where
-    either : (t : Bool) → false ≡ whole (cond t none (some (r ∷ replicate n tail)))
-    either true = refl
-    either false = refl
+pub turn : (s : List ℕ) (i : ℕ) (p q : Pending) → i < length s → following (some []) s ≡ following (expects (Some p)) (drop i s) → expects (Some q) ≡ next (expects (Some p)) (get_or s i 0) → following (some []) s ≡ following (expects (Some q)) (drop (i + 1) s)
+turn s i p q h e f = rw f (step s i (expects (Some p)) h e)
 
-whole_expects : (p : Pending) → eqb p.left 0 ≡ whole (expects p)
+stays_wrong : (s : List ℕ) → following none s ≡ none
+unfolding following
+stays_wrong [] = refl
+stays_wrong (b ∷ s) = stays_wrong s
+
+pub broken : (s : List ℕ) (i : ℕ) (p : Pending) → i < length s → following (some []) s ≡ following (expects (Some p)) (drop i s) → expects None ≡ next (expects (Some p)) (get_or s i 0) → false ≡ utf8 s
 unfolding expects
-whole_expects p = whole_ranges p.left (p.low ‥ p.high)
+broken s i p h e f = ap whole (sym (rw (← f, stays_wrong (drop (i + 1) s)) at (step s i (expects (Some p)) h e)))
 
-pub ended : (s : List ℕ) (i : ℕ) (p : Pending) → length s ≤ i → following (some []) s ≡ following (expects p) (drop i s) → eqb p.left 0 ≡ utf8 s
-unfolding following
-ended s i p h e = whole_expects p ∙ ap whole (sym (e ∙ ap (following (expects p)) (drop_of_length-le s h)))
+whole_ranges : (n : ℕ) (r : Range) → eqb n 0 ≡ whole (some (ranges n r))
+whole_ranges zero r = refl
+whole_ranges (suc n) r = eqb-suc-zero n
+
+pub ended : (s : List ℕ) (i : ℕ) (p : Pending) → length s ≤ i → following (some []) s ≡ following (expects (Some p)) (drop i s) → eqb p.left 0 ≡ utf8 s
+unfolding following expects
+ended s i p h e = whole_ranges p.left (p.low ‥ p.high) ∙ ap whole (sym (e ∙ ap (following (expects (Some p))) (drop_of_length-le s h)))

@@ -1,5 +1,6 @@
 -- UTF-8 (RFC 3629, section 4: the ABNF).
-use Rattle.std.specs.Prelude.{Bool, true, false, cond, ◌&&◌, List, [], ◌∷◌, ℕ, zero, suc, leb, ltb, eqb, replicate}
+use Rattle.std.specs.Prelude.{Bool, true, false, cond, ◌&&◌, List, [], ◌∷◌, ℕ, zero, suc, leb, ltb, replicate, Some, None}
+use Rattle.std.specs.declared.option.Option as Known
 use Rattle.std.proofs.Math.Option.{Option, none, some}
 use Rattle.utf8_text.specs.declared.utf8.Pending.{Pending}
 
@@ -68,5 +69,6 @@ abbrev pub ranges : ℕ → Range → List Range
 ranges zero r = []
 ranges (suc n) r = r ∷ replicate n tail
 
-unfoldable pub expects : Pending → Option (List Range)
-expects p = cond (eqb p.left 255) none (some (ranges p.left (p.low ‥ p.high)))
+unfoldable pub expects : Known.Option Pending → Option (List Range)
+expects None = none
+expects (Some p) = some (ranges p.left (p.low ‥ p.high))

@@ -1,17 +1,15 @@
 // UTF-8 as RFC 3629 has it: no overlong form, no surrogate, nothing above 10FFFF.
-ghost use Rattle.std.specs.Prelude.{◌≡◌, ◌+◌, ◌≤◌, length, take, drop};
+ghost use Rattle.std.specs.Prelude.{◌≡◌, ◌+◌, ◌≤◌, length, take, drop, Some};
 ghost use Rattle.utf8_text.specs.Utf8.{utf8, ascii, first, next, expects};
 
 // What has to follow in a character that has begun: `left` bytes, the first of them from `low` to `high`, the others
-// tail bytes. `left` is 0 between two characters, and WRONG once nothing can make the text right.
-#[derive(Clone, Copy)]
+// tail bytes. `left` is 0 between two characters.
+#[derive(Clone, Copy, Debug, PartialEq, Eq)]
 pub struct Pending {
     pub left: u8,
     pub low: u8,
     pub high: u8,
 }
-
-const WRONG: u8 = 255;
 
 // Most texts are ASCII alone, which is told eight bytes at a time.
 pub fn is_utf8(s: &[u8]) -> bool
@@ -20,11 +18,12 @@ pub fn is_utf8(s: &[u8]) -> bool
     if is_ascii(s) {
         return true;
     }
-    let mut p = after_tails(0);
-    let mut i = 0;
-    while i < s.len() {
-        p = after_byte(p, s[i]);
-        i += 1;
+    let mut p = Pending::tails(0);
+    for b in s {
+        match p.after(*b) {
+            Some(next) => p = next,
+            None => return false,
+        }
     }
     p.left == 0
 }
@@ -55,12 +54,10 @@ fn is_ascii(s: &[u8]) -> bool
 fn bytes_ascii(s: &[u8]) -> bool
     ensures { result ≡ ascii s.now }
 {
-    let mut i = 0;
-    while i < s.len() {
-        if 0x7f < s[i] {
+    for b in s {
+        if 0x7f < *b {
             return false;
         }
-        i += 1;
     }
     true
 }
@@ -80,67 +77,64 @@ fn four_ascii(s: &[u8], i: usize) -> bool
     (s[i] < 0x80) & (s[i + 1] < 0x80) & (s[i + 2] < 0x80) & (s[i + 3] < 0x80)
 }
 
-fn after_byte(p: Pending, b: u8) -> Pending
-    ensures { expects result ≡ next (expects p) b }
-{
-    let left = p.left;
-    if left == WRONG {
-        return p;
-    }
-    if left == 0 {
-        return after_first(b);
-    }
-    if b < p.low {
-        return after_tails(WRONG);
-    }
-    if p.high < b {
-        return after_tails(WRONG);
-    }
-    after_tails(left - 1)
-}
-
-// The alternatives of UTF8-char, by their first byte.
-#[tactic(auto, using(crate::proofs::Following::after_e0, crate::proofs::Following::after_ed, crate::proofs::Following::after_f0, crate::proofs::Following::after_f4, crate::proofs::Following::one_byte, crate::proofs::Following::two_bytes_lem, crate::proofs::Following::three_bytes, crate::proofs::Following::three_bytes_high, crate::proofs::Following::four_bytes, crate::proofs::Following::no_first_low, crate::proofs::Following::no_first_high), unfolding(crate::specs::Utf8::expects))]
-fn after_first(b: u8) -> Pending
-    ensures { expects result ≡ first b }
-{
-    match b {
-        0x00..=0x7f => after_tails(0),
-        0x80..=0xc1 => after_tails(WRONG),
-        0xc2..=0xdf => after_tails(1),
-        0xe0 => Pending {
-            left: 2,
-            low: 0xa0,
-            high: 0xbf,
-        },
-        0xe1..=0xec => after_tails(2),
-        0xed => Pending {
-            left: 2,
+impl Pending {
+    // `left` tail bytes.
+    fn tails(left: u8) -> Pending
+        ensures { result ≡ record { left = left; low = 0x80; high = 0xbf } }
+    {
+        Pending {
+            left,
             low: 0x80,
-            high: 0x9f,
-        },
-        0xee..=0xef => after_tails(2),
-        0xf0 => Pending {
-            left: 3,
-            low: 0x90,
             high: 0xbf,
-        },
-        0xf1..=0xf3 => after_tails(3),
-        0xf4 => Pending {
-            left: 3,
-            low: 0x80,
-            high: 0x8f,
-        },
-        0xf5..=0xff => after_tails(WRONG),
+        }
     }
-}
 
-fn after_tails(left: u8) -> Pending
-    ensures { result ≡ record { left = left; low = 0x80; high = 0xbf } }
-{
-    Pending {
-        left: left,
-        low: 0x80,
-        high: 0xbf,
+    // The state after a byte; none where nothing can make the text right.
+    fn after(self, b: u8) -> Option<Pending>
+        ensures { expects result ≡ next (expects (Some self)) b }
+    {
+        if self.left == 0 {
+            return Pending::after_first(b);
+        }
+        if b < self.low || self.high < b {
+            return None;
+        }
+        Some(Pending::tails(self.left - 1))
+    }
+
+    // The alternatives of UTF8-char, by their first byte.
+    #[tactic(auto, using(crate::proofs::Following::after_e0, crate::proofs::Following::after_ed, crate::proofs::Following::after_f0, crate::proofs::Following::after_f4, crate::proofs::Following::one_byte, crate::proofs::Following::two_bytes_lem, crate::proofs::Following::three_bytes, crate::proofs::Following::three_bytes_high, crate::proofs::Following::four_bytes, crate::proofs::Following::no_first_low, crate::proofs::Following::no_first_high), unfolding(crate::specs::Utf8::expects))]
+    fn after_first(b: u8) -> Option<Pending>
+        ensures { expects result ≡ first b }
+    {
+        match b {
+            0x00..=0x7f => Some(Pending::tails(0)),
+            0x80..=0xc1 => None,
+            0xc2..=0xdf => Some(Pending::tails(1)),
+            0xe0 => Some(Pending {
+                left: 2,
+                low: 0xa0,
+                high: 0xbf,
+            }),
+            0xe1..=0xec => Some(Pending::tails(2)),
+            0xed => Some(Pending {
+                left: 2,
+                low: 0x80,
+                high: 0x9f,
+            }),
+            0xee..=0xef => Some(Pending::tails(2)),
+            0xf0 => Some(Pending {
+                left: 3,
+                low: 0x90,
+                high: 0xbf,
+            }),
+            0xf1..=0xf3 => Some(Pending::tails(3)),
+            0xf4 => Some(Pending {
+                left: 3,
+                low: 0x80,
+                high: 0x8f,
+            }),
+            0xf5..=0xff => None,
+        }
     }
 }

@@ -2,15 +2,18 @@
 use mathlib.Core.Path.{◌≡◌, refl, sym}
 use mathlib.Core.Bool.{Bool, true, false}
 use mathlib.Core.List.{List, [], ◌∷◌, ◌++◌, append_assoc}
-use Prim.Native.Nat.{ℕ, zero, suc, ◌+◌, ◌*◌, ◌/◌, ◌%◌, ◌<◌, ◌^◌, ◌≤◌}
+use Prim.Native.Nat.{ℕ, zero, suc, ◌+◌, ◌-◌, ◌*◌, ◌/◌, ◌%◌, ◌<◌, ◌^◌, ◌≤◌}
 use native.Mathlib.Nat.{pow-suc, pow-zero, div-one, div-add-mod', div-div-eq-div-mul, mul_comm, mul_assoc}
 use native.Mathlib.Omega.{arith}
 use lib.Arith.{digits_div, digits_mod}
 use lib.ListN.{length, get_or, take, drop, length-append, length-drop}
 use borrow.Author.Tests.{le-leb, lt-leb, leb-true, leb-false}
 use lib.Dec.{leb}
-use lib.Seq.{get_or-append-add, take-suc, get_or-drop, get_or-take, get_or_at}
-use Rattle.wire.specs.Integers.{Bytes, big_endian, digits, number_at, number_or_zero, Law}
+use lib.Seq.{get_or-append-add, take-suc, take_all, get_or-drop, get_or-take, get_or_at}
+use Rattle.wire.specs.Integers.{Bytes, big_endian, digits, width_of, number_at, number_or_zero, Law}
+use Rattle.wire.specs.declared.integers.Width.{Width}
+use Rattle.wire.specs.declared.integers.Width.TheVariants.{One, Two, Three, Four, Eight}
+use Rattle.std.specs.Int.{byte_at, bytes_high_first}
 use Rattle.std.specs.Prelude.{Some, None}
 
 size : (n x : ℕ) → length (digits n x) ≡ n
@@ -61,6 +64,35 @@ pub digits_front : (k x : ℕ) → digits (suc k) x ≡ (x / 256 ^ k % 256) ∷ 
 unfolding digits
 digits_front zero x = rw (pow-zero, div-one)
 digits_front (suc k) x = rw (digits_front k (x / 256)) (simp (div-div-eq-div-mul, pow-suc, mul_comm (256 ^ k) 256))
+
+-- The bytes that std takes a number of eight bytes apart into: the last n are the n low ones.
+std_byte : (k x : ℕ) → byte_at k x ≡ x / 256 ^ k % 256
+std_byte zero x = rw (pow-zero, div-one)
+std_byte (suc k) x = refl
+
+std_bytes : (n x : ℕ) → bytes_high_first n x ≡ digits n x
+std_bytes zero x = unfold digits in refl
+std_bytes (suc n) x = rw (digits_front n x, std_byte n x, std_bytes n x)
+
+last_digits : (m n x : ℕ) → drop m (digits (m + n) x) ≡ digits n x
+last_digits zero n x = let e : zero + n ≡ n = omega arith in rw e
+last_digits (suc m) n x =
+    let e : suc m + n ≡ suc (m + n) = omega arith in
+    rw (e, digits_front (m + n) x) (last_digits m n x)
+
+pub at_most_eight : (w : Width) → width_of w ≤ 8
+at_most_eight One = omega arith
+at_most_eight Two = omega arith
+at_most_eight Three = omega arith
+at_most_eight Four = omega arith
+at_most_eight Eight = omega arith
+
+pub low_bytes : (n x : ℕ) → n ≤ 8 → take (8 - (8 - n)) (drop (8 - n) (bytes_high_first 8 x)) ≡ digits n x
+low_bytes n x h =
+    let e : 8 - n + n ≡ 8 = omega arith in
+    let f : 8 - (8 - n) ≡ n = omega arith in
+    let g : length (digits n x) ≤ n = rw (size n x) (omega arith) in
+    rw (std_bytes 8 x, rw e at (last_digits (8 - n) n x), f) (take_all n (digits n x) g)
 
 -- A list of bytes with one more in front.
 pub bytes_cons : (b : ℕ) (s : List ℕ) → b < 256 → Bytes s → Bytes (b ∷ s)

@@ -19,36 +19,9 @@ pub fn put_bytes(out: &mut [u8], at: usize, src: &[u8], from: usize, len: usize)
     at + len
 }
 
-// In blocks, each by way of an array that is apart from out and src: so the compiler makes one move of a block.
 fn copy(out: &mut [u8], at: usize, src: &[u8], from: usize, len: usize)
     requires { (at + len ≤ length out.old) × (from + len ≤ length src.now) }
     ensures { out.new ≡ splice out.old at (take len (drop from src.now)) }
 {
-    let mut done = 0;
-    while 16384 <= len - done {
-        block(out, at + done, src, from + done, 16384);
-        done += 16384;
-    }
-    block(out, at + done, src, from + done, len - done);
-}
-
-fn block(out: &mut [u8], at: usize, src: &[u8], from: usize, len: usize)
-    requires { (at + len ≤ length out.old) × (from + len ≤ length src.now) × (len ≤ 16384) }
-    ensures { out.new ≡ splice out.old at (take len (drop from src.now)) }
-{
-    let mut bytes = [0u8; 16384];
-    each(&mut bytes[..], 0, src, from, len);
-    each(out, at, &bytes[..], 0, len);
-}
-
-// Byte by byte.
-fn each(out: &mut [u8], at: usize, src: &[u8], from: usize, len: usize)
-    requires { (at + len ≤ length out.old) × (from + len ≤ length src.now) }
-    ensures { out.new ≡ splice out.old at (take len (drop from src.now)) }
-{
-    let mut i = 0;
-    while i < len {
-        out[at + i] = src[from + i];
-        i += 1;
-    }
+    out[at..at + len].copy_from_slice(&src[from..from + len]);
 }

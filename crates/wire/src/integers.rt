@@ -55,6 +55,7 @@ pub fn number_or_zero(s: &[u8], at: usize, width: Width) -> u64
 
 // Puts the low bytes of v, as many as the width has, at a place of out, and answers the place behind them.
 // Where they have no room, out stays as it is and the answer is the place itself.
+#[tactic(auto, using(crate::proofs::Widths::at_most_eight))]
 pub fn put_number(out: &mut [u8], at: usize, width: Width, v: u64) -> usize
     ensures { holds out.new result ≡ put out.old at (digits (width_of width) v) }
 {
@@ -66,52 +67,35 @@ pub fn put_number(out: &mut [u8], at: usize, width: Width, v: u64) -> usize
     at + n
 }
 
-// It is written out, and not a loop, so that it is inlined and made one load.
+// An array of bytes that stand side by side becomes one load.
+#[tactic(auto, unfolding(crate::specs::Integers::big_endian))]
 fn number_there(s: &[u8], at: usize, width: Width) -> u64
     requires { at + width_of width ≤ length s.now }
     ensures { result ≡ big_endian (width_of width) s.now at }
 {
     match width {
-        Width::One => one(s, at) as u64,
-        Width::Two => two(s, at) as u64,
-        Width::Three => two(s, at) as u64 * 0x100 + one(s, at + 2) as u64,
-        Width::Four => four(s, at) as u64,
-        Width::Eight => four(s, at) as u64 * 0x1_0000_0000 + four(s, at + 4) as u64,
+        Width::One => s[at] as u64,
+        Width::Two => u16::from_be_bytes([s[at], s[at + 1]]) as u64,
+        Width::Three => u32::from_be_bytes([0, s[at], s[at + 1], s[at + 2]]) as u64,
+        Width::Four => u32::from_be_bytes([s[at], s[at + 1], s[at + 2], s[at + 3]]) as u64,
+        Width::Eight => u64::from_be_bytes([
+            s[at],
+            s[at + 1],
+            s[at + 2],
+            s[at + 3],
+            s[at + 4],
+            s[at + 5],
+            s[at + 6],
+            s[at + 7],
+        ]),
     }
 }
 
-// One sum: the compiler sees a load in it, which it does not in a sum of halves.
-fn four(s: &[u8], at: usize) -> u32
-    requires { at + 4 ≤ length s.now }
-    ensures { result ≡ big_endian 4 s.now at }
-{
-    one(s, at) * 0x100_0000 + one(s, at + 1) * 0x1_0000 + one(s, at + 2) * 0x100 + one(s, at + 3)
-}
-
-fn two(s: &[u8], at: usize) -> u32
-    requires { at + 2 ≤ length s.now }
-    ensures { (result ≡ big_endian 2 s.now at) × (result < 0x1_0000) }
-{
-    one(s, at) * 0x100 + one(s, at + 1)
-}
-
-fn one(s: &[u8], at: usize) -> u32
-    requires { at + 1 ≤ length s.now }
-    ensures { (result ≡ big_endian 1 s.now at) × (result < 0x100) }
-{
-    s[at] as u32
-}
-
-// From the last byte to the first.
+// The n low bytes of v are the last ones, which become one store.
 fn put_big_endian(out: &mut [u8], at: usize, n: usize, v: u64)
-    requires { at + n ≤ length out.old }
+    requires { (at + n ≤ length out.old) × (n ≤ 8) }
     ensures { out.new ≡ splice out.old at (digits n v) }
 {
-    let mut x = v;
-    let mut i = n;
-    while 0 < i {
-        i -= 1;
-        out[at + i] = (x % 256) as u8;
-        x /= 256;
-    }
+    let bytes = v.to_be_bytes();
+    out[at..at + n].copy_from_slice(&bytes[8 - n..]);
 }
