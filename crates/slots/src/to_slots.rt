@@ -98,19 +98,15 @@ pub fn flat_chunk(header: ChunkHeader, data: Place) -> [u64; 14]
     ensures value { result ≡ flat_header header ++ flat_place «data» }
     ensures signed_header { SignedHeader header }
 {
-    let magic = bits8(header.magic);
-    let chunk_type = bits8(header.chunk_type);
-    let timestamp = u64::unsigned(header.timestamp);
-    let checksum = bits32(header.checksum);
     [
-        magic,
-        chunk_type,
+        u64::unsigned(i64::from(header.magic)),
+        u64::unsigned(i64::from(header.chunk_type)),
         header.entries as u64,
         header.records as u64,
-        timestamp,
+        u64::unsigned(header.timestamp),
         header.epoch,
         header.first_offset,
-        checksum,
+        u64::unsigned(i64::from(header.checksum)),
         header.data_length as u64,
         header.trailer_length as u64,
         header.bloom_size as u64,
@@ -120,29 +116,17 @@ pub fn flat_chunk(header: ChunkHeader, data: Place) -> [u64; 14]
     ]
 }
 
-fn bits8(x: i8) -> u64
-    ensures { result ≡ bits x }
-{
-    u64::unsigned(x as i64)
-}
-
-fn bits32(x: i32) -> u64
-    ensures { result ≡ bits x }
-{
-    u64::unsigned(x as i64)
-}
-
 // A signed number of one byte, and of four, as its 64 bits.
 pub fn widened8(x: u8) -> u64
     ensures { result ≡ bits (signed 1 x) }
 {
-    bits8(x.signed())
+    u64::unsigned(i64::from(x.signed()))
 }
 
 pub fn widened32(x: u32) -> u64
     ensures { result ≡ bits (signed 4 x) }
 {
-    bits32(x.signed())
+    u64::unsigned(i64::from(x.signed()))
 }
 
 // The slots of a message: its place.
