@@ -1,5 +1,4 @@
--- Every kind of field, and every row of fields, is written as its encoding says. A refusal has a number other than 0, so
--- that 0 can say that there is none. Assumes nothing.
+-- Every kind of field, and every row of fields, is put as it is encoded, if it is not refused and has room. Assumes nothing.
 use mathlib.Core.Path.{◌≡◌, refl, ◌∙◌, sym, ap}
 use mathlib.Core.Bool.{Bool, true, false, cond, not, ◌&&◌, ◌||◌}
 use mathlib.Core.List.{List, [], ◌∷◌, ◌++◌}
@@ -12,7 +11,7 @@ use borrow.Author.Tests.{ltb-false}
 use Rattle.wire.specs.Buffer.{Holds, holds, splice}
 use Rattle.wire.specs.Integers.{digits}
 use Rattle.wire.specs.Signed as two's
-use Rattle.wire.proofs.Splice.{length_splice, splice_splice, put_fits, copied_there}
+use Rattle.wire.proofs.Splice.{splice_none, length_splice, splice_splice, put_fits, copied_there}
 use Rattle.protocol.specs.Fields.{Field, bytes_at, outside}
 use Rattle.protocol.specs.Kinds.{length_width, Kind, unsigned, signed, string, specification, list, chunk, Row, end, ◌·◌}
 use Rattle.protocol.specs.declared.chunk.ChunkHeader.{ChunkHeader}
@@ -20,72 +19,19 @@ use Rattle.protocol.specs.declared.kind.Form.{Form}
 use Rattle.protocol.specs.declared.offset.OffsetSpecification.{OffsetSpecification}
 use Rattle.protocol.specs.declared.offset.OffsetSpecification.TheVariants.{None, First, Last, Next, Offset, Timestamp}
 use Rattle.protocol.specs.declared.place.Place.{Place}
-use Rattle.rules.proofs.Bounds.{Numbered, numbered_repeated, numbered_row, numbered_entry}
 use Rattle.rules.specs.Grammar.{encode_header}
 use Rattle.rules.specs.Outcome.{Outcome, got, refused, repeated}
 use Rattle.rules.specs.Reading.{too_long, is_text, is_chunk_type, has_entries, read_entry, read_row}
-use Rattle.rules.specs.Writing.{Encoding, wrote, checked, fits_signed, fits_header, used_up, place_of, write_string, write_offset, write_list, write_chunk, write_field, write_row}
-use Rattle.fields.specs.Writer.{behind, copied_behind, put_string, put_offset, put_header, put_field, step_field, step_row}
-use Rattle.frame_writing.proofs.Passes.{Lawful, bytes_of, not_wrote, Numbers, Puts, nothing, both, one}
+use Rattle.rules.specs.Writing.{Encoding, wrote, refuse, checked, followed, fits_signed, fits_header, used_up, place_of, write_string, write_offset, write_list, write_chunk, write_field, write_row}
+use Rattle.fields.specs.Passes.{behind, copied_behind, put_string, put_list, put_offset, put_header, put_field, put_row}
 
--- ---- Refusals have numbers
+abbrev bytes_of : Encoding → List ℕ
+bytes_of (wrote b) = b
+bytes_of (refuse n) = []
 
-check : (t : Bool) (n : ℕ) (e : Encoding) → Numbers e → Numbers (checked t (suc n) e)
-check true n e h = λ z. omega (arith, z)
-check false n e h = h
-
-used : (o : Outcome Unit) (part : List ℕ) (rest : Encoding) → Numbered o → Numbers rest → Numbers (used_up o part rest)
-used (got _ behind) part rest k h = check (ltb behind (length part)) 10 rest h
-used (refused n at) part rest k h = k
-
-either : (t : Bool) (d e : Encoding) → Numbers d → Numbers e → Numbers (cond t d e)
-either true d e h k = h
-either false d e h k = k
-
-numbers_string : (form : Form) (nullable : Bool) (src : List ℕ) (p : Option Place) → Numbers (write_string form nullable src p)
-unfolding write_string
-numbers_string form nullable src none = check (not nullable) 6 _ tt
-numbers_string form nullable src (some p) =
-    check (leb (256 ^ length_width form / 2) p.len) 6 _
-    (check (too_long form p.len) 8 _
-    (check (outside p src) 5 _
-    (check (not (is_text form (bytes_at src p))) 7 _ tt)))
-
-numbers_offset : (admits_none : Bool) (o : OffsetSpecification) → Numbers (write_offset admits_none o)
-unfolding write_offset
-numbers_offset admits_none None = check (not admits_none) 9 _ tt
-numbers_offset admits_none First = tt
-numbers_offset admits_none Last = tt
-numbers_offset admits_none Next = tt
-numbers_offset admits_none (Offset x) = check (leb (256 ^ 8) x) 9 _ tt
-numbers_offset admits_none (Timestamp z) = check (not (fits_signed 8 z)) 9 _ tt
-
-numbers_list : (row : Row) (src : List ℕ) (n : ℕ) (p : Place) → Numbers (write_list row src n p)
-unfolding write_list
-numbers_list row src n p =
-    check (leb 0x8000_0000 n) 6 _
-    (check (outside p src) 5 _
-    (used (repeated (read_row row) n (bytes_at src p) 0) (bytes_at src p) _ (numbered_repeated (read_row row) (numbered_row row) n (bytes_at src p) 0) tt))
-
-numbers_chunk : (src : List ℕ) (h : ChunkHeader) (p : Place) → Numbers (write_chunk src h p)
-unfolding write_chunk
-numbers_chunk src h p =
-    check (not (is_chunk_type h.chunk_type && fits_header h)) 9 _
-    (check (outside p src) 5 _
-    (check (ltb p.len h.data_length) 5 _
-    (check (ltb h.data_length p.len) 10 _
-    (either (has_entries h.chunk_type) _ _
-    (check (not (eqb h.records h.entries)) 9 _
-    (used (repeated read_entry h.entries (bytes_at src p) 0) (bytes_at src p) _ (numbered_repeated read_entry numbered_entry h.entries (bytes_at src p) 0) tt))
-    tt))))
-
-numbers_field : (k : Kind) (src : List ℕ) (f : Field Place) → Numbers (write_field k src f)
-numbers_field (unsigned n most) src f = check (ltb most f.number || leb (256 ^ n) f.number) 9 _ tt
-numbers_field (signed n) src f = check (not (fits_signed n f.integer)) 9 _ tt
-numbers_field (string form nullable) src f = numbers_string form nullable src f.octets
-numbers_field (specification admits_none) src f = numbers_offset admits_none f.offset
-numbers_field (list rule row) src f = numbers_list row src f.number (place_of f.octets)
-numbers_field chunk src f = numbers_chunk src f.header (place_of f.octets)
+-- What is put of an encoding, where it has room, is its bytes.
+abbrev Puts : Encoding → (Holds → Holds) → Type 0
+Puts e f = (b : List ℕ) (at : ℕ) (out : List ℕ) → e ≡ wrote b → at + length b ≤ length out → f (holds out at) ≡ holds (splice out at b) (at + length b)
 
 -- ---- Pieces put one behind another
 
@@ -118,17 +64,17 @@ copied_inside src p h o = copied_there h.bytes h.next src p.at p.len (ltb-false 
 
 -- ---- Checks that were passed
 
-pub record Passed (t : Bool) (e : Encoding) (b : List ℕ) : Type 0 where
+record Passed (t : Bool) (e : Encoding) (b : List ℕ) : Type 0 where
   pub test : t ≡ false
   pub rest : e ≡ wrote b
 
 passed : (t : Bool) (n : ℕ) (e : Encoding) (b : List ℕ) → checked t n e ≡ wrote b → Passed t e b
-passed true n e b i = not_wrote i
+passed true n e b i = cc
 passed false n e b i = record { test = refl; rest = i }
 
 used_passed : (o : Outcome Unit) (part : List ℕ) (rest : Encoding) (b : List ℕ) → used_up o part rest ≡ wrote b → rest ≡ wrote b
 used_passed (got _ behind) part rest b i = (passed (ltb behind (length part)) _ rest b i).rest
-used_passed (refused n at) part rest b i = not_wrote i
+used_passed (refused n at) part rest b i = cc
 
 either_passed : (t : Bool) (d e f : Encoding) (b : List ℕ) → (d ≡ wrote b → f ≡ wrote b) → (e ≡ wrote b → f ≡ wrote b) → cond t d e ≡ wrote b → f ≡ wrote b
 either_passed true d e f b h k i = h i
@@ -159,7 +105,7 @@ puts_offset admits_none (Offset x) b at out i h =
 puts_offset admits_none (Timestamp z) b at out i h =
     put_pieces (digits 2 5) (digits 8 (two's.unsigned 8 z) ∷ []) b at out (ap bytes_of (passed (not (fits_signed 8 z)) _ _ b i).rest) h
 
-puts_list : (row : Row) (src : List ℕ) (n : ℕ) (p : Place) → Puts (write_list row src n p) (λ h. copied_behind src p (behind (digits 4 n) h))
+puts_list : (row : Row) (src : List ℕ) (n : ℕ) (p : Place) → Puts (write_list row src n p) (put_list src n p)
 unfolding write_list
 puts_list row src n p b at out i h =
     let count = passed (leb 0x8000_0000 n) _ _ b i in
@@ -216,11 +162,25 @@ puts_field (specification admits_none) src f b at out i h = puts_offset admits_n
 puts_field (list rule row) src f b at out i h = puts_list row src f.number (place_of f.octets) b at out i h
 puts_field chunk src f b at out i h = puts_chunk src f.header (place_of f.octets) b at out i h
 
-pub field_lawful : (k : Kind) (src : List ℕ) (f : Field Place) → Lawful (write_field k src f) (λ s. step_field k src f s)
-field_lawful k src f = one (write_field k src f) (put_field k src f) (numbers_field k src f) (puts_field k src f)
+-- ---- Rows
 
-pub row_lawful : (row : Row) (src : List ℕ) (fs : List (Field Place)) → Lawful (write_row row src fs) (λ s. step_row row src fs s)
-unfolding step_row
-row_lawful end src fs = nothing
-row_lawful (k · row) src [] = nothing
-row_lawful (k · row) src (f ∷ fs) = both (field_lawful k src f) (row_lawful row src fs)
+nothing : (b : List ℕ) (at : ℕ) (out : List ℕ) → [] ≡ b → holds out at ≡ holds (splice out at b) (at + length b)
+nothing b at out e = let f : at + length {A = ℕ} [] ≡ at = omega arith in rw (← e, f, ← splice_none out at)
+
+-- One encoding behind another.
+both : (d e : Encoding) (f g : Holds → Holds) → Puts d f → Puts e g → Puts (followed d e) (λ h. g (f h))
+both (refuse n) e f g p q b at out i h = cc
+both (wrote a) (refuse n) f g p q b at out i h = cc
+both (wrote a) (wrote c) f g p q b at out i h =
+    let j : a ++ c ≡ b = ap bytes_of i in
+    let m : at + length a + length c ≤ length out = omega (arith, length-append a c, ap length j, h) in
+    let o : at + length a ≤ length out = omega (arith, m) in
+    let r : at + length a + length c ≤ length (splice out at a) = rw (length_splice out a at o) m in
+    let t : at + length (a ++ c) ≡ at + length a + length c = omega (arith, length-append a c) in
+    rw (p a at out refl o, q c (at + length a) (splice out at a) refl r, splice_splice out a c at m, ← j, t)
+
+pub row_puts : (row : Row) (src : List ℕ) (fs : List (Field Place)) → Puts (write_row row src fs) (put_row row src fs)
+unfolding put_row
+row_puts end src fs b at out i h = nothing b at out (ap bytes_of i)
+row_puts (k · row) src [] b at out i h = nothing b at out (ap bytes_of i)
+row_puts (k · row) src (f ∷ fs) b at out i h = both (write_field k src f) (write_row row src fs) (put_field k src f) (put_row row src fs) (puts_field k src f) (row_puts row src fs) b at out i h
