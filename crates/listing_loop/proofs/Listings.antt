@@ -25,9 +25,6 @@ use Rattle.listing_loop.specs.declared.session.Stage.{Stage}
 use Rattle.listing_loop.specs.declared.session.Stage.TheVariants.{Listing, Listed}
 use Rattle.listing_loop.proofs.Standings.{Known}
 
-pub not_listing : (x : Stage) (y : State) → x ≡ Listed y → is_listing x ≡ false
-not_listing x y e = rw e refl
-
 -- By the state in which the listing of the window stopped.
 module _ (R : List ℕ → Type 0) (all left : List ℕ → List ℕ) (made : List ℕ) (n : Next) (len : ℕ) (p : Progress) where
   known_after : (x : State) (w : List ℕ) (ended : Bool) (room waiting : ℕ) (failed : Bool) → ((rest : List ℕ) → R rest → all rest ≡ made ++ behind x (left rest)) → following (drop p.from w) ended limit ≡ n → len ≡ waiting + room → Stopped x w ended room p → false ≡ failed → Known R all left made n len p.offset p.frames (Listed x) (waiting + p.written) failed

@@ -32,9 +32,6 @@ unfolding in_order
 start_stands i e s window text =
     record { input = s window; room = omega arith; fails = refl; lines = λ rest r. rw e; because = tt }
 
-pub part_length : (n : ℕ) (text : List ℕ) → n ≤ length text → n ≡ length (take n text)
-part_length n text h = sym (length-take-le n text h)
-
 -- At every stage the text made so far is the start of the listing.
 begins_with : (x : Stage) (all made left : List ℕ) → Begins x all made left → (more : List ℕ) × (all ≡ made ++ more)
 begins_with Listing all made left b = (left, b)
