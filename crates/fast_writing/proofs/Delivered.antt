@@ -5,6 +5,7 @@ use Prim.Native.Nat.{ℕ, ◌+◌, ◌≤◌}
 use native.Mathlib.Omega.{arith}
 use lib.ListN.{length, take, drop}
 use lib.Seq.{get_or-drop, drop-drop}
+use Rattle.std.proofs.lemmas.List.{take_all, length-drop}
 use Rattle.wire.specs.Buffer.{Holds, holds}
 use Rattle.wire.specs.Integers.{digits}
 use Rattle.wire.specs.Signed.{unsigned}
@@ -17,7 +18,7 @@ use Rattle.protocol.specs.declared.place.Place.{Place}
 use Rattle.rules.specs.Grammar.{encode_header}
 use Rattle.rules.specs.Writing.{Encoding, wrote, refuse, unwritten, write_field}
 use Rattle.byte_strings.specs.Stops.{refusal_of}
-use Rattle.fields.specs.Writer.{behind, copied_behind, put_header}
+use Rattle.fields.specs.Passes.{behind, copied_behind, put_header}
 use Rattle.fields.proofs.Encodings.{fits}
 use Rattle.slots.specs.Unflat.{slot, unflat_field, unflat_header}
 use Rattle.slot_writing.proofs.ChunkChecks.{ChunkWritten, chunk_length}
@@ -42,6 +43,10 @@ chunk_next src h p o q n m x l i j =
     j
     ∙ copied_there (put_header h (holds o n)).bytes (put_header h (holds o n)).next src p.at p.len l
     ∙ ap (λ (y : Holds). behind (bytes_at src p) (put_header h y)) i
+
+-- The slots of the chunk are the last of the twenty-four.
+pub chunk_slots : (s : List ℕ) → length s ≡ 24 → take 21 (drop 3 s) ≡ drop 3 s
+chunk_slots s h = take_all 21 (drop 3 s) (omega (arith, length-drop 3 s))
 
 module _ (s src : List ℕ) (id : slot s 2 ≤ 0xff) (w : ChunkWritten src (unflat_header (drop 3 s)) (place (slot (drop 3 s) 12) (slot (drop 3 s) 13))) where
   abbrev chunk : List (List ℕ)

@@ -2,31 +2,40 @@
 -- part that the code puts. Assumes nothing.
 use mathlib.Core.Path.{◌≡◌, refl, ◌∙◌, sym, ap}
 use mathlib.Core.Bool.{true, false}
-use mathlib.Core.List.{List, [], ◌∷◌, ◌++◌, append_assoc}
-use Prim.Native.Nat.{ℕ, ◌+◌, ◌/◌, ◌%◌, ◌<◌, ◌≤◌}
+use mathlib.Core.List.{List, [], ◌∷◌, ◌++◌, append_assoc, append-nil}
+use Prim.Native.Nat.{ℕ, ◌+◌, ◌/◌, ◌%◌, ◌^◌, ◌<◌, ◌≤◌}
 use native.Mathlib.Omega.{arith}
 use lib.ListN.{length, take, drop}
 use lib.Seq.{get_or-drop}
-use borrow.Author.Tests.{ltb-false, ne_eqb}
+use borrow.Author.Tests.{lt-leb, ltb-false, ne_eqb}
 use Rattle.wire.specs.Integers.{digits}
 use Rattle.wire.specs.declared.integers.Width.TheVariants.{Eight}
 use Rattle.wire.proofs.Splice.{part_length}
-use Rattle.protocol.specs.Fields.{elements, place}
+use mathlib.Core.Option.{some}
+use Rattle.std.specs.Prelude.{Result, Ok, Err, is_err}
+use Rattle.protocol.specs.Refusals.{number_in}
+use Rattle.protocol.specs.declared.refusal.Refusal.{Refusal}
+use Rattle.protocol.specs.Fields.{Field, elements, place, bytes_at}
+use Rattle.protocol.specs.Frames.{list_field}
+use Rattle.protocol.specs.declared.place.Place.{Place}
+use Rattle.protocol.specs.declared.place.Elements.{Elements}
 use Rattle.protocol.specs.Kinds.{Kind, Row, end, ◌·◌, list, list_of, plain, plain_list, u8, element_row}
 use Rattle.protocol.specs.Table.{table, row_in, row_of}
 use Rattle.protocol.specs.declared.kind.Element.TheVariants.{Message, Property, PublishingId}
 use Rattle.protocol.specs.declared.kind.ListKind.{ListKind}
 use Rattle.protocol.specs.declared.kind.Element.{Element}
 use Rattle.protocol.specs.declared.kind.Form.TheVariants.{Text, Reference}
+use Rattle.protocol.specs.declared.offset.OffsetSpecification.TheVariants.{Offset}
 use Rattle.protocol.specs.declared.kind.ListRule.{ListRule}
 use Rattle.rules.specs.Writing.{Encoding, wrote, followed, write_field, write_string, write_offset, write_row}
 use Rattle.byte_strings.specs.Stops.{refusal_of}
-use Rattle.fields.proofs.Encodings.{fits, position_fits}
+use Rattle.fields.proofs.Encodings.{fits}
 use Rattle.byte_strings.proofs.StringFields.{Admitted, admitted_bytes}
 use Rattle.number_lists.specs.Fixed.{numbers}
 use Rattle.number_lists.proofs.Lists.{not_refused}
 use Rattle.slots.specs.Flat.{null_length}
 use Rattle.slots.specs.Unflat.{slot, unflat_octets, unflat_offset, unflat_row}
+use Rattle.fast_writing.specs.Answer.{listed}
 use Rattle.fast_writing.proofs.Chain.{joined, part_front, number_front, Encodes}
 use Rattle.fast_writing.proofs.Eights.{eight}
 
@@ -35,6 +44,11 @@ use Rattle.fast_writing.proofs.Eights.{eight}
 module _ (src : List ℕ) (at len : ℕ) where
   pub reference_written : Admitted Reference src at len → write_string Reference true src (unflat_octets true at len) ≡ wrote (digits 2 len ++ take len (drop at src))
   reference_written t = rw (ne_eqb len null_length (λ e. omega (arith, e, t.short))) (admitted_bytes Reference src at len true t)
+
+-- What `is_err` tells.
+pub not_err : (r : Result Unit Refusal) → is_err r ≡ false → number_in r ≡ 0
+not_err (Ok a) e = refl
+not_err (Err f) e = cc
 
 -- A list that is not refused: its elements' place is in the source, and it is written as its count and these bytes.
 pub record ListWritten (kind : Kind) (src : List ℕ) (n at len : ℕ) : Type 0 where
@@ -46,13 +60,34 @@ list_written rule row src n at len r e z =
     let w = not_refused rule row src n (place at len) (sym e ∙ z) in
     record { inside = ltb-false _ _ w.0; is = w.1 }
 
-pub plain_written : (kind : ListKind) (element : Element) (src : List ℕ) (n at len r : ℕ) → kind ≡ plain_list element → r ≡ refusal_of (write_field (list_of kind) src (elements n (place at len))) → r ≡ 0 → ListWritten (list plain (element_row element)) src n at len
-plain_written kind element src n at len r k e z = list_written plain (element_row element) src n at len r (rw k at e) z
+pub list_inside : (row : Row) (src : List ℕ) (l : Elements) (r : ℕ) → r ≡ refusal_of (write_field (list plain row) src (list_field l)) → r ≡ 0 → l.place.at + l.place.len ≤ length src
+list_inside row src l r e z = ltb-false _ _ (not_refused plain row src l.count l.place (sym e ∙ z)).0
+
+-- The list that stands in slots.
+pub same_list : (l : Elements) (n at len : ℕ) → list_field l ≡ elements n (place at len) → (l.count ≡ n) × (l.place ≡ place at len)
+same_list l n at len e =
+    let octets : some l.place ≡ some (place at len) = ap (λ (f : Field Place). f.octets) e in
+    (ap (λ (f : Field Place). f.number) e, cc)
+
+module _ (kind : ListKind) (element : Element) (src : List ℕ) (l : Elements) (k : kind ≡ plain_list element) where
+  abbrev checked_as : ℕ → Type 0
+  checked_as r = r ≡ refusal_of (write_field (list_of kind) src (list_field l))
+
+  pub plain_checked : (r : ℕ) → checked_as r → r ≡ refusal_of (write_field (list plain (element_row element)) src (list_field l))
+  plain_checked r f = f ∙ ap (λ (x : ListKind). refusal_of (write_field (list_of x) src (list_field l))) k
+
+  pub plain_written : (n at len r : ℕ) → list_field l ≡ elements n (place at len) → checked_as r → r ≡ 0 → ListWritten (list plain (element_row element)) src n at len
+  plain_written n at len r e f z =
+      list_written plain (element_row element) src n at len r (plain_checked r f ∙ ap (λ (x : Field Place). refusal_of (write_field (list plain (element_row element)) src x)) e) z
+
+position_fits : (x : ℕ) → x < 256 ^ 8 → write_offset false (Offset x) ≡ wrote (digits 2 4 ++ digits 8 x)
+unfolding write_offset
+position_fits x h = rw (lt-leb (256 ^ 8) x h)
 
 pub offset_written : (type v : ℕ) → type ≡ 4 → v < 0x1_0000_0000_0000_0000 → write_offset false (unflat_offset false type v) ≡ wrote (digits 2 4 ++ (digits 4 (v / 0x1_0000_0000) ++ digits 4 (v % 0x1_0000_0000)))
 offset_written type v e h =
     ap (λ (t : ℕ). write_offset false (unflat_offset false t v)) e
-    ∙ position_fits false v h
+    ∙ position_fits v h
     ∙ ap (λ (b : List ℕ). wrote (digits 2 4 ++ b)) (eight v)
 
 -- ---- Rows
@@ -90,33 +125,21 @@ module _ (s src : List ℕ) where
       let l : length (joined credited) ≡ 1 + (2 + 0) = number_front 1 (slot s 2) _ _ (number_front 2 (slot s 3) [] 0 refl) in
       record { is = credit_written a b; sized = omega (arith, l) }
 
-  -- A number, then a list of one kind of element.
-  abbrev bytes : List ℕ
-  bytes = take (slot s 5) (drop (slot s 4) src)
+  -- A publisher's id, then a list of one kind of element.
+  module _ (l : Elements) (e : list_field l ≡ elements (slot s 3) (place (slot s 4) (slot s 5))) (r : ℕ) (z : r ≡ 0) (id : slot s 2 ≤ 0xff) where
+    row_listed : (row : Row) → r ≡ refusal_of (write_field (list plain row) src (list_field l)) → write_row (u8 · list plain row · end) src (unflat_row (u8 · list plain row · end) (drop 2 s)) ≡ wrote (listed (slot s 2) l.count (bytes_at src l.place))
+    row_listed row f =
+        let w : write_field (list plain row) src (list_field l) ≡ wrote (digits 4 l.count ++ bytes_at src l.place) = (not_refused plain row src l.count l.place (sym f ∙ z)).1 in
+        let v : write_field (list plain row) src (elements (slot s 3) (place (slot s 4) (slot s 5))) ≡ wrote (digits 4 l.count ++ bytes_at src l.place) = ap (write_field (list plain row) src) (sym e) ∙ w in
+        simp get_or-drop (rw (fits 1 0xff (slot s 2) (omega arith) id, v, append-nil))
 
-  abbrev listed : List (List ℕ)
-  listed = digits 1 (slot s 2) ∷ digits 4 (slot s 3) ∷ bytes ∷ []
-
-  module _ (row : Row) (w : ListWritten (list plain row) src (slot s 3) (slot s 4) (slot s 5)) (id : slot s 2 ≤ 0xff) where
-    numbered_list : write_row (u8 · list plain row · end) src (unflat_row (u8 · list plain row · end) (drop 2 s)) ≡ wrote (joined listed)
-    numbered_list =
-        simp get_or-drop
-        (one_in_front (digits 1 (slot s 2)) _ _ (digits 4 (slot s 3) ∷ bytes ∷ []) (fits 1 0xff (slot s 2) (omega arith) id)
-        (two_in_front (digits 4 (slot s 3)) bytes _ _ [] w.is refl))
-
-    list_row : Encodes (write_row (u8 · list plain row · end) src (unflat_row (u8 · list plain row · end) (drop 2 s))) listed (9 + slot s 5)
-    list_row =
-        let l : length (joined listed) ≡ 1 + (4 + (slot s 5 + 0)) = number_front 1 (slot s 2) _ _ (number_front 4 (slot s 3) _ _ (part_front bytes [] (slot s 5) 0 (part_length [] 0 src (slot s 4) (slot s 5) w.inside) refl)) in
-        record { is = numbered_list; sized = omega (arith, l) }
-
-  module _ (id : slot s 2 ≤ 0xff) where
-    pub publish_row : ListWritten (list plain (element_row Message)) src (slot s 3) (slot s 4) (slot s 5) → Encodes (row_written 0x0002 s src) listed (9 + slot s 5)
+    pub publish_row : r ≡ refusal_of (write_field (list plain (element_row Message)) src (list_field l)) → row_written 0x0002 s src ≡ wrote (listed (slot s 2) l.count (bytes_at src l.place))
     unfolding row_in table
-    publish_row w = list_row (element_row Message) w id
+    publish_row f = row_listed (element_row Message) f
 
-    pub confirm_row : ListWritten (numbers Eight) src (slot s 3) (slot s 4) (slot s 5) → Encodes (row_written 0x0003 s src) listed (9 + slot s 5)
+    pub confirm_row : r ≡ refusal_of (write_field (numbers Eight) src (list_field l)) → row_written 0x0003 s src ≡ wrote (listed (slot s 2) l.count (bytes_at src l.place))
     unfolding row_in table
-    confirm_row w = list_row (element_row PublishingId) w id
+    confirm_row f = row_listed (element_row PublishingId) f
 
   -- A publisher's declaration.
   module _ (t : Admitted Reference src (slot s 4) (slot s 5)) (u : Admitted Text src (slot s 6) (slot s 7)) where
@@ -175,3 +198,19 @@ module _ (s src : List ℕ) where
       subscribe_row =
           let l : length (joined subscribed) ≡ 4 + (1 + (2 + (slot s 5 + (2 + (4 + (4 + (2 + (4 + (slot s 11 + 0))))))))) = number_front 4 (slot s 2) _ _ (number_front 1 (slot s 3) _ _ (number_front 2 (slot s 5) _ _ (part_front stream _ (slot s 5) _ (part_length [] 0 src (slot s 4) (slot s 5) t.inside) (number_front 2 4 _ _ (number_front 4 (slot s 7 / 0x1_0000_0000) _ _ (number_front 4 (slot s 7 % 0x1_0000_0000) _ _ (number_front 2 (slot s 8) _ _ (number_front 4 (slot s 9) _ _ (part_front properties [] (slot s 11) 0 (part_length [] 0 src (slot s 10) (slot s 11) p.inside) refl))))))))) in
           record { is = subscribe_written; sized = omega (arith, l) }
+
+-- The same by the places that the code makes of slots.
+module _ (s src : List ℕ) (p : Place) (e : p ≡ place (slot s 4) (slot s 5)) where
+  pub declare_at : (q : Place) → q ≡ place (slot s 6) (slot s 7) → Admitted Reference src p.at p.len → Admitted Text src q.at q.len → slot s 2 ≤ 0xffff_ffff → slot s 3 ≤ 0xff → Encodes (row_written 0x0001 s src) (digits 4 (slot s 2) ∷ digits 1 (slot s 3) ∷ digits 2 p.len ∷ bytes_at src p ∷ digits 2 q.len ∷ bytes_at src q ∷ []) (13 + p.len + q.len)
+  declare_at q f t u a b = rw (e, f) (declare_row s src (rw e at t) (rw f at u) a b)
+
+  pub subscribe_at : (l : Elements) → list_field l ≡ elements (slot s 9) (place (slot s 10) (slot s 11)) → Admitted Text src p.at p.len → ListWritten (list plain (element_row Property)) src (slot s 9) (slot s 10) (slot s 11) → slot s 2 ≤ 0xffff_ffff → slot s 3 ≤ 0xff → slot s 6 ≡ 4 → slot s 7 < 0x1_0000_0000_0000_0000 → slot s 8 ≤ 0xffff → Encodes (row_written 0x0007 s src) (digits 4 (slot s 2) ∷ digits 1 (slot s 3) ∷ digits 2 p.len ∷ bytes_at src p ∷ digits 2 4 ∷ digits 4 (slot s 7 / 0x1_0000_0000) ∷ digits 4 (slot s 7 % 0x1_0000_0000) ∷ digits 2 (slot s 8) ∷ digits 4 l.count ∷ bytes_at src l.place ∷ []) (27 + p.len + l.place.len)
+  subscribe_at l f t w a b type v c =
+      let same = same_list l (slot s 9) (slot s 10) (slot s 11) f in
+      rw (e, same.0, same.1) (subscribe_row s src (rw e at t) w a b type v c)
+
+-- What is put of a list whose checks have passed.
+pub listed_row : (id count : ℕ) (src : List ℕ) (p : Place) → p.at + p.len ≤ length src → Encodes (wrote (listed id count (bytes_at src p))) (digits 1 id ∷ digits 4 count ∷ bytes_at src p ∷ []) (9 + p.len)
+listed_row id count src p h =
+    let l : length (joined (digits 1 id ∷ digits 4 count ∷ bytes_at src p ∷ [])) ≡ 1 + (4 + (p.len + 0)) = number_front 1 id _ _ (number_front 4 count _ _ (part_front (bytes_at src p) [] p.len 0 (part_length [] 0 src p.at p.len h) refl)) in
+    record { is = rw append-nil; sized = omega (arith, l) }

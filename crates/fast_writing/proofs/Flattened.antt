@@ -7,13 +7,13 @@ use Rattle.protocol.specs.Table.{table, row_in}
 use Rattle.rules.specs.Writing.{Writing, write_frame}
 use Rattle.slots.specs.Unflat.{slot, unflat_frame, write_flat}
 use Rattle.fast_writing.specs.Answer.{WritesAs, write_row_of}
-use Rattle.fast_writing.specs.declared.writing.Fast.{Fast}
-use Rattle.fast_writing.specs.declared.writing.Fast.TheVariants.{Length, Refused, Unwritten}
+use Rattle.std.specs.Prelude.{Option, None, Some, Result, Ok, Err}
+use Rattle.protocol.specs.declared.refusal.Refusal.{Refusal}
 
-pub same_writing : (w v : Writing) (old new : List ℕ) (r : Fast) → v ≡ w → WritesAs w old r new → WritesAs v old r new
-same_writing w v old new (Length n) e h = e ∙ h
-same_writing w v old new (Refused n) e h = (e ∙ h.0, h.1)
-same_writing w v old new Unwritten e h = h
+pub same_writing : (w v : Writing) (old new : List ℕ) (r : Option (Result ℕ Refusal)) → v ≡ w → WritesAs w old r new → WritesAs v old r new
+same_writing w v old new (Some (Ok n)) e h = e ∙ h
+same_writing w v old new (Some (Err f)) e h = (e ∙ h.0, h.1)
+same_writing w v old new None e h = h
 
 module _ (s src : List ℕ) (limit : ℕ) (out : List ℕ) (key : ℕ) (k : slot s 0 ≡ key) (v : slot s 1 ≡ 1) where
   flat_row_lem : decide key 1 ≡ layout key 1 → write_flat s src limit out ≡ write_row_of key 1 s src limit out

@@ -4,4 +4,3 @@ mod Eights
 mod Encoded
 mod Delivered
 mod Flattened
-mod Checking

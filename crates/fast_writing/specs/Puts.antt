@@ -2,7 +2,7 @@
 use Rattle.std.specs.Prelude.{ℕ, ◌/◌, ◌%◌}
 use Rattle.wire.specs.Buffer.{Holds}
 use Rattle.wire.specs.Integers.{digits}
-use Rattle.fields.specs.Writer.{behind}
+use Rattle.fields.specs.Passes.{behind}
 
 -- Eight bytes as two halves.
 abbrev pub halves : ℕ → Holds → Holds

@@ -6,4 +6,4 @@ mod publishing;
 mod puts;
 mod writing;
 
-pub use writing::{Fast, write};
+pub use writing::write;

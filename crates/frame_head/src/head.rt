@@ -15,6 +15,7 @@ pub struct Head {
 }
 
 // The head of the frame at the start of the bytes. A number that is not all there is 0.
+#[tactic(auto, unfolding(crate::specs::Head::head_of))]
 pub fn head_of(bytes: &[u8]) -> Head
     ensures { result ≡ head_of bytes.now }
 {

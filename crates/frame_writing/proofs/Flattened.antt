@@ -1,47 +1,54 @@
--- What a writer does with the whole frame that stands in slots. Assumes nothing.
-use mathlib.Core.Path.{◌≡◌, ◌∙◌, sym, ap}
+-- What is written of the whole frame that stands in slots. Assumes nothing.
+use mathlib.Core.Path.{◌≡◌, refl, ◌∙◌, sym, ap}
 use mathlib.Core.List.{List}
+use mathlib.Core.Logic.{◌⊎◌, inl, inr}
 use Prim.Native.Nat.{ℕ}
-use lib.ListN.{get_or, drop}
-use Rattle.wire.specs.Buffer.{holds}
-use Rattle.wire.specs.Integers.{digits}
-use Rattle.protocol.specs.Decision.{Decision, layout, unlisted_key, unlisted_version, decide}
+use native.Mathlib.Omega.{arith}
+use lib.ListN.{length, take, drop}
+use Rattle.std.specs.Prelude.{Ok, Err, Some}
+use Rattle.std.proofs.lemmas.List.{take_all, length-drop}
+use Rattle.std.specs.Borrow.{Bor}
+use Rattle.wire.specs.Buffer.{Holds}
+use Rattle.protocol.specs.Decision.{Decision, layout, unlisted_key, unlisted_version, decide, decision_of}
+use Rattle.protocol.specs.Fields.{Fields}
 use Rattle.protocol.specs.Kinds.{Row}
-use Rattle.protocol.specs.Refusals.{unknown_key, unknown_version}
+use Rattle.protocol.specs.Refusals.{number_of}
 use Rattle.protocol.specs.Table.{row_of}
-use Rattle.rules.specs.Writing.{unwritten, write_frame, write_decided}
-use Rattle.fields.specs.Writer.{State, behind, step_row}
-use Rattle.slots.specs.Unflat.{unflat_row, unflat_frame, write_flat}
-use Rattle.frame_writing.proofs.Writings.{step_content}
+use Rattle.protocol.specs.declared.kind.FieldKind.{FieldKind}
+use Rattle.protocol.specs.declared.place.Place.{Place}
+use Rattle.protocol.specs.declared.refusal.Refusal.{Refusal}
+use Rattle.protocol.specs.declared.refusal.Refusal.TheVariants.{UnknownKey, UnknownVersion}
+use Rattle.rules.specs.Writing.{Written, unwritten, write_row, write_frame, write_decided}
+use Rattle.fields.specs.Passes.{measured_from, put_row}
+use Rattle.slots.specs.Unflat.{slot, unflat_row, unflat_frame, write_flat}
+use Rattle.frame_writing.proofs.Decided.{unlisted_told}
 
--- A pass over a row's slots is a pass over the frame's fields.
-pub content_stepped : (s src : List ℕ) (row : Row) (t x : State) → row ≡ row_of (get_or s 0 0) (get_or s 1 0) → x ≡ step_row row src (unflat_row row (drop 2 s)) t → x ≡ step_content (unflat_frame s) src t
-unfolding unflat_frame
-content_stepped s src row t x e i = i ∙ ap (λ (r : Row). step_row r src (unflat_row r (drop 2 s)) t) e
+module _ (s : List ℕ) where
+  abbrev asked : Decision
+  asked = decide (slot s 0) (slot s 1)
 
--- The head that is put is the frame's.
-pub head_of : (s : List ℕ) (k v size : ℕ) (out q : List ℕ) (n : ℕ) → k ≡ get_or s 0 0 → v ≡ get_or s 1 0 → holds q n ≡ behind (digits 2 v) (behind (digits 2 k) (behind (digits 4 size) (holds out 0))) → holds q n ≡ behind (digits 2 (unflat_frame s).version) (behind (digits 2 (unflat_frame s).key) (behind (digits 4 size) (holds out 0)))
-unfolding unflat_frame
-head_of s k v size out q n i j e = e ∙ (λ m. behind (digits 2 (j m)) (behind (digits 2 (i m)) (behind (digits 4 size) (holds out 0))))
-
-abbrev pub Picks : List ℕ → Row → Type 0
-Picks s row = (decide (get_or s 0 0) (get_or s 1 0) ≡ layout (get_or s 0 0) (get_or s 1 0)) × (row ≡ row_of (get_or s 0 0) (get_or s 1 0))
-
-module _ (s : List ℕ) (k v : ℕ) (k_is : k ≡ get_or s 0 0) (v_is : v ≡ get_or s 1 0) where
-  asked_of : (d : Decision) → d ≡ decide k v → d ≡ decide (get_or s 0 0) (get_or s 1 0)
-  asked_of d e = e ∙ (λ n. decide (k_is n) (v_is n))
-
-  pub picks : (row : Row) → layout k v ≡ decide k v → row ≡ row_of k v → Picks s row
-  picks row e r = (sym (asked_of (layout k v) e) ∙ (λ n. layout (k_is n) (v_is n)), r ∙ (λ n. row_of (k_is n) (v_is n)))
-
-  pub key_refused : (src : List ℕ) (limit : ℕ) (out : List ℕ) → unlisted_key ≡ decide k v → unwritten unknown_key out ≡ write_flat s src limit out
+  -- A key or a version that is not listed.
+  pub layout_refused : (r : Refusal) (src : List ℕ) (limit : ℕ) (out : List ℕ) → decision_of {A = Bor (List FieldKind)} (Err r) (slot s 0) (slot s 1) ≡ Some asked → unwritten (number_of r) out ≡ write_flat s src limit out
   unfolding write_flat write_frame unflat_frame
-  key_refused src limit out e = ap (λ (d : Decision). write_decided d (unflat_frame s) src limit out) (asked_of unlisted_key e)
+  layout_refused r src limit out e = by (unlisted_told r (slot s 0) (slot s 1) asked e)
+    where
+      by : ((r ≡ UnknownKey) × (unlisted_key ≡ asked)) ⊎ ((r ≡ UnknownVersion) × (unlisted_version ≡ asked)) → unwritten (number_of r) out ≡ write_decided asked (unflat_frame s) src limit out
+      by (inl h) = rw h.0 (ap (λ (d : Decision). write_decided d (unflat_frame s) src limit out) h.1)
+      by (inr h) = rw h.0 (ap (λ (d : Decision). write_decided d (unflat_frame s) src limit out) h.1)
 
-  pub version_refused : (src : List ℕ) (limit : ℕ) (out : List ℕ) → unlisted_version ≡ decide k v → unwritten unknown_version out ≡ write_flat s src limit out
-  unfolding write_flat write_frame unflat_frame
-  version_refused src limit out e = ap (λ (d : Decision). write_decided d (unflat_frame s) src limit out) (asked_of unlisted_version e)
+  pub is_listed : {A : Type 0} (a : A) → decision_of (Ok a) (slot s 0) (slot s 1) ≡ Some asked → decide (unflat_frame s).key (unflat_frame s).version ≡ layout (unflat_frame s).key (unflat_frame s).version
+  unfolding unflat_frame
+  is_listed a e = let l : layout (slot s 0) (slot s 1) ≡ asked = cc in sym l
 
-pub listed_flat : (s : List ℕ) → decide (get_or s 0 0) (get_or s 1 0) ≡ layout (get_or s 0 0) (get_or s 1 0) → decide (unflat_frame s).key (unflat_frame s).version ≡ layout (unflat_frame s).key (unflat_frame s).version
-unfolding unflat_frame
-listed_flat s e = e
+  -- The fields' slots stand behind those of key and version.
+  module _ (long : length s ≡ 24) (row : Row) (r : row ≡ row_of (slot s 0) (slot s 1)) where
+    rest : take 22 (drop 2 s) ≡ drop 2 s
+    rest = take_all 22 (drop 2 s) (omega (arith, length-drop 2 s))
+
+    pub content_measured : (src : List ℕ) (start : ℕ) (x : Written) → x ≡ measured_from start (write_row row src (unflat_row row (take 22 (drop 2 s)))) → x ≡ measured_from start (write_row (row_of (unflat_frame s).key (unflat_frame s).version) src (unflat_frame s).content)
+    unfolding unflat_frame
+    content_measured src start x e = e ∙ (λ i. measured_from start (write_row (r i) src (unflat_row (r i) (rest i))))
+
+    pub content_put : (src : List ℕ) (h g : Holds) → h ≡ put_row row src (unflat_row row (take 22 (drop 2 s))) g → h ≡ put_row (row_of (unflat_frame s).key (unflat_frame s).version) src (unflat_frame s).content g
+    unfolding unflat_frame
+    content_put src h g e = e ∙ (λ i. put_row (r i) src (unflat_row (r i) (rest i)) g)

@@ -1,7 +1,5 @@
--- What the proofs of several functions use.
-mod Passes
-mod FieldPasses
+-- Lemmas that belong to no one function.
+mod FieldPuts
 mod Writings
 mod Decided
 mod Flattened
-mod Fast

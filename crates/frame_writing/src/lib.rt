@@ -3,4 +3,4 @@
 
 mod writing;
 
-pub use writing::{Written, write};
+pub use writing::write;

@@ -6,13 +6,10 @@ use mathlib.Core.List.{List, [], ◌∷◌, ◌++◌}
 use Prim.Native.Nat.{ℕ, ◌+◌, ◌-◌, ◌≤◌, ◌<◌, min}
 use native.Mathlib.Omega.{arith}
 use lib.Dec.{leb, eqb}
-use lib.IntN.{ℤ, pos}
-use lib.ListN.{length, get_or, set, take, drop, length-append, length-drop, length-take}
-use lib.Seq.{slice, length-slice, length-take-le, take-add, take_at, take_all, take-length, drop_at, drop-drop, drop-append-le}
+use lib.ListN.{length, take, drop, length-append, length-drop, length-take}
+use lib.Seq.{slice, paste, length-slice, length-take-le, take-add, take_at, take_all, take-length, drop_at, drop-drop, drop-append-le}
 use borrow.Author.Tests.{leb-true, leb-false, eq-eqb, ne_eqb}
-use Rattle.io.specs.Counts.{clamp_len}
-use Rattle.wire.specs.Buffer.{splice, Written}
-use Rattle.wire.proofs.Splice.{splice_none, length_splice, written, copy_turn}
+use Rattle.std.specs.Prelude.{Option, Some}
 use Rattle.input_window.specs.Reads.{in_order, ended, EndsByNothing, after_read}
 use Rattle.input_window.specs.Window.{Shows}
 use Rattle.input_window.specs.declared.input.Input.{Input}
@@ -67,20 +64,17 @@ module _ (reads : List (List ℕ)) (at : Input) (window : List ℕ) (s : Shows r
       record { order = s.order; inside = rw l s.inside; ends = s.ends; within = s.within; rest = ap (drop at.from) e ∙ s.rest }
 
   -- What is not taken yet, moved to the front.
-  pub front_shows : (window' : List ℕ) → window' ≡ splice window 0 (take (at.held - at.from) (drop at.from window)) → Shows reads (record { from = 0; held = at.held - at.from; offset = at.offset; ended = at.ended }) window'
-  unfolding splice
-  front_shows window' e =
+  pub front_shows : (window' : List ℕ) → window' ≡ paste window 0 (drop at.from window) (at.held - at.from) → length window' ≡ length window → Shows reads (record { from = 0; held = at.held - at.from; offset = at.offset; ended = at.ended }) window'
+  front_shows window' e k =
       let b : List ℕ = take (at.held - at.from) (drop at.from window) in
-      let o = s.order in
       let i = s.inside in
       let l : length b ≡ at.held - at.from = ap length shown ∙ left_length in
-      let k : length window' ≡ length window = rw e (length_splice window b 0 (omega (arith, l, o, i))) in
       record {
         order = omega arith;
         inside = omega (arith, k, i);
         ends = s.ends;
         within = s.within;
-        rest = rw e (take_at b (drop (0 + length b) window) (at.held - at.from) l) ∙ shown;
+        rest = rw e (take_at b (drop (0 + (at.held - at.from)) window) (at.held - at.from) l) ∙ shown;
       }
 
   -- n bytes further.
@@ -130,38 +124,5 @@ module _ (reads : List (List ℕ)) (at : Input) (window : List ℕ) (s : Shows r
         }
 
   -- It was counted from the places that the window has.
-  pub read_shows : (r : Input) → (at.from ≤ at.held → at.held ≤ length window → r ≡ at) → (got counted : ℤ) (n m : ℕ) → got ≡ pos n → counted ≡ pos n → m ≡ clamp_len counted (length (take (length window - r.held) (drop r.held window))) → Shows (after_read got (drop at.held window) reads) (record { from = r.from; held = r.held + m; offset = r.offset; ended = eqb m 0 }) window
-  read_shows r i got counted n m z y = subst (λ (x : Input). m ≡ clamp_len counted (length (take (length window - x.held) (drop x.held window))) → Shows (after_read got (drop at.held window) reads) (record { from = x.from; held = x.held + m; offset = x.offset; ended = eqb m 0 }) window) (sym (i s.order s.inside)) (λ e. rw z (gave_shows n m (rw (y, all) at e)))
-    where
-      all : take (length window - at.held) (drop at.held window) ≡ drop at.held window
-      all = take_all (length window - at.held) (drop at.held window) (rw (length-drop at.held window) (omega arith))
-
--- ---- The loop that moves bytes
-
--- i bytes are moved. Each lies after the place that it is put at, so none is overwritten before it is read.
-abbrev pub Moved : List ℕ → ℕ → ℕ → List ℕ → ℕ → Type 0
-Moved s from len o i = (i ≤ len) × (o ≡ splice s 0 (take i (drop from s)))
-
-pub moved_start : (s : List ℕ) (from len : ℕ) → Moved s from len s 0
-moved_start s from len = (omega arith, splice_none s 0)
-
-module _ (s o : List ℕ) (from len i : ℕ) (h : from + len ≤ length s) (m : Moved s from len o i) where
-  moved_length : length (take i (drop from s)) ≡ i
-  moved_length = length-take-le i (drop from s) (rw (length-drop from s) (omega (arith, h, m.0)))
-
-  pub moved_same : length o ≡ length s
-  moved_same = let k = moved_length in rw m.1 (length_splice s (take i (drop from s)) 0 (rw k (omega (arith, h, m.0))))
-
-  pub moved_turn : i < len → Moved s from len (set o i (get_or o (from + i) 0)) (i + 1)
-  moved_turn l =
-      let k : length (take i (drop from s)) ≡ i = moved_length in
-      let r : 0 + length (take i (drop from s)) ≤ length s = rw k (omega (arith, h, m.0)) in
-      let w : Written s 0 (take i (drop from s)) = written s 0 (take i (drop from s)) r in
-      let g : get_or (splice s 0 (take i (drop from s))) (from + i) 0 ≡ get_or s (from + i) 0 = w.after (from + i) (rw k (omega arith)) in
-      let e : get_or o (from + i) 0 ≡ get_or s (from + i) 0 = ap (λ (x : List ℕ). get_or x (from + i) 0) m.1 ∙ g in
-      let z : 0 + i ≡ i = omega arith in
-      let t : set o (0 + i) (get_or s (from + i) 0) ≡ splice s 0 (take (i + 1) (drop from s)) = copy_turn o s s 0 from i len l (omega (arith, h)) h m.1 in
-      (omega (arith, l), ap (λ (x : ℕ). set o i x) e ∙ (rw z at t))
-
-  pub moved_end : len ≤ i → o ≡ splice s 0 (take len (drop from s))
-  moved_end g = let e : i ≡ len = omega (arith, g, m.0) in rw e at m.1
+  pub received_shows : (r : Input) → (at.from ≤ at.held → at.held ≤ length window → r ≡ at) → (got : Option ℕ) (n m : ℕ) → got ≡ Some n → m ≡ min n (length window - r.held) → Shows (after_read got (drop at.held window) reads) (record { from = r.from; held = r.held + m; offset = r.offset; ended = eqb m 0 }) window
+  received_shows r i got n m z = subst (λ (x : Input). m ≡ min n (length window - x.held) → Shows (after_read got (drop at.held window) reads) (record { from = x.from; held = x.held + m; offset = x.offset; ended = eqb m 0 }) window) (sym (i s.order s.inside)) (λ e. rw z (gave_shows n m (rw (length-drop at.held window) e)))

@@ -1,5 +1,5 @@
 -- The reads of an input. No contract says which bytes a read gives, so the statements hold of every list of reads.
-use Rattle.std.specs.Prelude.{◌≡◌, Bool, true, false, List, [], ◌∷◌, ◌++◌, ℕ, ℤ, pos, negsuc, take}
+use Rattle.std.specs.Prelude.{◌≡◌, Bool, true, false, List, [], ◌∷◌, ◌++◌, ℕ, Option, None, Some, take}
 
 -- Pieces one after another, where the last one comes first: what each read gave makes the input, as far as it was read.
 unfoldable pub in_order : List (List ℕ) → List ℕ
@@ -15,7 +15,7 @@ ended ((b ∷ last) ∷ earlier) = false
 abbrev pub EndsByNothing : Type 0
 EndsByNothing = (reads : List (List ℕ)) → ended reads ≡ true → (earlier : List (List ℕ)) × (reads ≡ [] ∷ earlier)
 
--- A read answered that it put so many bytes at the start of this part of the window, or a negative number: it failed.
-abbrev pub after_read : ℤ → List ℕ → List (List ℕ) → List (List ℕ)
-after_read (pos n) part reads = take n part ∷ reads
-after_read (negsuc n) part reads = reads
+-- A read put so many bytes at the start of this part of the window, or none, as it failed.
+abbrev pub after_read : Option ℕ → List ℕ → List (List ℕ) → List (List ℕ)
+after_read (Some n) part reads = take n part ∷ reads
+after_read None part reads = reads

@@ -3,4 +3,4 @@
 
 mod input;
 
-pub use input::{Input, make_room, received, rest, start, taken};
+pub use input::Input;

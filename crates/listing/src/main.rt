@@ -2,8 +2,7 @@
 #![tactic(auto)]
 
 use listing_loop::Stage;
-
-const STANDARD_ERROR: i32 = 2;
+use listing_text::State;
 
 fn main(rt: HostRuntime) {
     let mut window = [0u8; 262144];
@@ -11,23 +10,15 @@ fn main(rt: HostRuntime) {
     let mut input = rt.stdin();
     let mut output = rt.stdout();
     let end = listing_loop::run(&mut input, &mut output, &mut window, &mut text);
-    let stage = end.stage;
-    say_why(stage);
-}
-
-// Says on standard error why the listing has no closing line, if it has none.
-fn say_why(stage: Stage) {
-    match stage {
-        Stage::Listed => {}
-        Stage::Unreadable => say(b"listing: standard input can't be read\n"),
-        Stage::Unwritable => say(b"listing: standard output can't be written\n"),
+    // Says on standard error why the listing has no closing line, if it has none.
+    let why = match end.stage {
+        Stage::Listed(State::Done) => return,
+        Stage::Unreadable => "standard input can't be read",
+        Stage::Unwritable => "standard output can't be written",
         // A run is left at the three after this one only after 2^64 - 1 turns, which no capture gets to.
-        Stage::TooLong | Stage::Listing | Stage::Full | Stage::Reading => {
-            say(b"listing: the capture is too long\n")
+        Stage::Listed(State::TooLong | State::Going | State::More) | Stage::Listing => {
+            "the capture is too long"
         }
-    }
-}
-
-fn say(message: &[u8]) {
-    io::write_all(STANDARD_ERROR, message);
+    };
+    eprintln!(rt; "listing: {why}").ok();
 }

@@ -16,31 +16,22 @@ use Rattle.listing_text.specs.Steps.{behind, Lists, Stopped, Stops}
 use Rattle.listing_text.proofs.Listings.{lists_length}
 use Rattle.listing_text.specs.declared.listing.Progress.{Progress}
 use Rattle.listing_text.specs.declared.listing.State.{State}
-use Rattle.listing_text.specs.declared.listing.State.TheVariants.{Going, More, Done, TooLong as Long}
+use Rattle.listing_text.specs.declared.listing.State.TheVariants.{Going, More, Done, TooLong}
 use Rattle.listing_loop.specs.History.{History, capture, handed, ended}
-use Rattle.listing_loop.specs.Stages.{is_listing, is_failed, stage_listed}
+use Rattle.listing_loop.specs.Stages.{is_listing, is_failed}
 use Rattle.listing_loop.specs.Standing.{Begins, Stands}
 use Rattle.listing_loop.specs.declared.session.Session.{Session}
 use Rattle.listing_loop.specs.declared.session.Stage.{Stage}
-use Rattle.listing_loop.specs.declared.session.Stage.TheVariants.{Listing}
+use Rattle.listing_loop.specs.declared.session.Stage.TheVariants.{Listing, Listed}
 use Rattle.listing_loop.proofs.Standings.{Known}
-
-pub not_listing : (x : Stage) (y : State) → x ≡ stage_listed y → is_listing x ≡ false
-not_listing x y e = rw e (by y)
-  where
-    by : (y : State) → is_listing (stage_listed y) ≡ false
-    by Going = refl
-    by More = refl
-    by Done = refl
-    by Long = refl
 
 -- By the state in which the listing of the window stopped.
 module _ (R : List ℕ → Type 0) (all left : List ℕ → List ℕ) (made : List ℕ) (n : Next) (len : ℕ) (p : Progress) where
-  known_after : (x : State) (w : List ℕ) (ended : Bool) (room waiting : ℕ) (failed : Bool) → ((rest : List ℕ) → R rest → all rest ≡ made ++ behind x (left rest)) → following (drop p.from w) ended limit ≡ n → len ≡ waiting + room → Stopped x w ended room p → false ≡ failed → Known R all left made n len p.offset p.frames (stage_listed x) (waiting + p.written) failed
+  known_after : (x : State) (w : List ℕ) (ended : Bool) (room waiting : ℕ) (failed : Bool) → ((rest : List ℕ) → R rest → all rest ≡ made ++ behind x (left rest)) → following (drop p.from w) ended limit ≡ n → len ≡ waiting + room → Stopped x w ended room p → false ≡ failed → Known R all left made n len p.offset p.frames (Listed x) (waiting + p.written) failed
   known_after Going w ended room waiting failed b e l h f = (b, omega (arith, l, h), f)
   known_after More w ended room waiting failed b e l h f = (b, sym e ∙ h, f)
   known_after Done w ended room waiting failed b e l h f = (λ rest r. b rest r ∙ append-nil made, ap closes (sym e) ∙ h, f)
-  known_after Long w ended room waiting failed b e l h f = (b, (h.0, h.1, sym e ∙ h.2, h.3), f)
+  known_after TooLong w ended room waiting failed b e l h f = (b, (h.0, h.1, sym e ∙ h.2, h.3), f)
 
 -- The text that waits then: the text that waited, and the lines made.
 text_after : (text text' part lines : List ℕ) (waiting : ℕ) → waiting ≤ length text → text' ≡ take waiting text ++ (part ++ drop (length text - waiting) (drop waiting text)) → part ≡ splice (take (length text - waiting) (drop waiting text)) 0 lines → take (waiting + length lines) text' ≡ take waiting text ++ lines
@@ -102,14 +93,14 @@ module _ (h : History) (s : Session) (window text : List ℕ) (st : Stands h s w
         ∙ (sym (append_assoc made l.text after)
         ∙ ap (λ (y : List ℕ). y ++ after) (append_assoc (handed h) (take s.waiting text) l.text ∙ ap (λ (y : List ℕ). handed h ++ y) (sym g))))))
 
-    stands_then : (i : Input) (x : Stage) → Shows h.reads i window → i.offset ≡ s.input.offset + p.from → x ≡ stage_listed p.state → Stops left (ended h) (length free) p → Stands h (record { input = i; frames = p.frames; waiting = s.waiting + p.written; stage = x }) window text'
+    stands_then : (i : Input) (x : Stage) → Shows h.reads i window → i.offset ≡ s.input.offset + p.from → x ≡ Listed p.state → Stops left (ended h) (length free) p → Stands h (record { input = i; frames = p.frames; waiting = s.waiting + p.written; stage = x }) window text'
     stands_then i x shows o z e =
         let at : i.offset ≡ p.offset = o ∙ sym further in
         let k = known_after (Rest (ended h)) (λ rest. listing (capture h ++ rest)) (λ rest. lines_of (drop p.offset (capture h ++ rest)) p.offset p.frames) (handed h ++ take (s.waiting + p.written) text') (following (drop p.offset (capture h)) (ended h) limit) (length text') p p.state left (ended h) (length free) s.waiting h.failed lines_then (ap (λ (y : List ℕ). following y (ended h) limit) (rest_then (capture h))) (same ∙ room_length) e (ap is_failed (sym listing_on) ∙ st.fails) in
         rw z (record { input = shows; room = omega (arith, same, room_length, l.room); fails = k.2; lines = λ rest r. rw at (k.0 rest r); because = rw at k.1 })
 
   -- What is lent of the window, w, is what it shows, and what is listed of it is taken.
-  pub listed_stands : (p : Progress) (part text' w : List ℕ) (i : Input) (x : Stage) → w ≡ left → text' ≡ take s.waiting text ++ (part ++ drop (length text - s.waiting) (drop s.waiting text)) → Lists w s.input.ended (record { from = 0; offset = s.input.offset; frames = s.frames; written = 0; state = Going }) free part p → Stops w s.input.ended (length free) p → (p.from ≤ length left → s.input.offset + p.from < 0x1_0000_0000_0000_0000 → Shows h.reads i window × (i.offset ≡ s.input.offset + p.from)) → p.offset < 0x1_0000_0000_0000_0000 → x ≡ stage_listed p.state → Stands h (record { input = i; frames = p.frames; waiting = s.waiting + p.written; stage = x }) window text'
+  pub listed_stands : (p : Progress) (part text' w : List ℕ) (i : Input) (x : Stage) → w ≡ left → text' ≡ take s.waiting text ++ (part ++ drop (length text - s.waiting) (drop s.waiting text)) → Lists w s.input.ended (record { from = 0; offset = s.input.offset; frames = s.frames; written = 0; state = Going }) free part p → Stops w s.input.ended (length free) p → (p.from ≤ length left → s.input.offset + p.from < 0x1_0000_0000_0000_0000 → Shows h.reads i window × (i.offset ≡ s.input.offset + p.from)) → p.offset < 0x1_0000_0000_0000_0000 → x ≡ Listed p.state → Stands h (record { input = i; frames = p.frames; waiting = s.waiting + p.written; stage = x }) window text'
   listed_stands p part text' w i x q t l e f fits z =
       let l' : Lists left (ended h) (record { from = 0; offset = s.input.offset; frames = s.frames; written = 0; state = Going }) free part p = rw (q, st.input.ends) at l in
       let g = f l'.within (omega (arith, fits, l'.place)) in

@@ -6,21 +6,22 @@ use mathlib.Core.List.{List, [], ◌∷◌, ◌++◌}
 use mathlib.Core.Logic.{◌⊎◌, inl, inr}
 use Prim.Native.Nat.{ℕ, ◌+◌, ◌<◌, ◌≤◌}
 use native.Mathlib.Omega.{arith}
-use lib.IntN.{ℤ, pos, negsuc}
 use lib.ListN.{length, take, drop, length-append}
 use lib.Seq.{length-take-le, take_at}
+use Rattle.std.specs.Prelude.{Option, None, Some}
 use Rattle.captures.specs.Following.{Next}
 use Rattle.input_window.specs.Reads.{in_order}
 use Rattle.input_window.specs.Reads as input
 use Rattle.input_window.proofs.Windows.{kept_shows}
 use Rattle.listing_text.specs.Steps.{greatest}
+use Rattle.listing_text.specs.declared.listing.State.TheVariants.{Going, More, Done, TooLong}
 use Rattle.listing_loop.specs.History.{History, capture, handed, ended, after_read, after_write}
 use Rattle.listing_loop.specs.Run.{Ran}
-use Rattle.listing_loop.specs.Stages.{is_listing, is_over, stage_read, stage_written}
+use Rattle.listing_loop.specs.Stages.{is_listing, is_reading, is_over, stage_read, stage_written}
 use Rattle.listing_loop.specs.Standing.{Because, Stands}
 use Rattle.listing_loop.specs.declared.session.Session.{Session}
 use Rattle.listing_loop.specs.declared.session.Stage.{Stage}
-use Rattle.listing_loop.specs.declared.session.Stage.TheVariants.{Listing, Full, Reading, Listed, TooLong, Unreadable, Unwritable}
+use Rattle.listing_loop.specs.declared.session.Stage.TheVariants.{Listing, Listed, Unreadable, Unwritable}
 use Rattle.listing_loop.proofs.Standings.{input_stands, not_ended, handed_so_far, whole_listing, listing_closed}
 
 -- The bytes that were read and the bytes of text that were handed out. A read that gave nothing counts as one: it is the last.
@@ -33,11 +34,23 @@ Before made s window text = (h : History) × Stands h s window text × (s.stage 
 
 -- In a turn, before a write: a read was made, and the listing goes on; or a write is due.
 abbrev pub Within : ℕ → Session → List ℕ → List ℕ → Type 0
-Within made s window text = (h : History) × Stands h s window text × (s.stage ≡ Reading → ⊥) × (cond (is_listing s.stage) (made + 1) made ≤ moved h)
+Within made s window text = (h : History) × Stands h s window text × (s.stage ≡ Listed More → ⊥) × (cond (is_listing s.stage) (made + 1) made ≤ moved h)
+
+pub reading_stage : (x : Stage) → is_reading x ≡ true → x ≡ Listed More
+reading_stage Listing e = absurd (let o : ◌≡◌ {A = ℕ} 0 1 = cc in omega arith)
+reading_stage (Listed Going) e = absurd (let o : ◌≡◌ {A = ℕ} 0 1 = cc in omega arith)
+reading_stage (Listed More) e = refl
+reading_stage (Listed Done) e = absurd (let o : ◌≡◌ {A = ℕ} 0 1 = cc in omega arith)
+reading_stage (Listed TooLong) e = absurd (let o : ◌≡◌ {A = ℕ} 0 1 = cc in omega arith)
+reading_stage Unreadable e = absurd (let o : ◌≡◌ {A = ℕ} 0 1 = cc in omega arith)
+reading_stage Unwritable e = absurd (let o : ◌≡◌ {A = ℕ} 0 1 = cc in omega arith)
+
+not_reading : (x : Stage) → is_reading x ≡ false → x ≡ Listed More → ⊥
+not_reading x e y = let f : is_reading (Listed More) ≡ false = sym (ap is_reading y) ∙ e in absurd (let o : ◌≡◌ {A = ℕ} 0 1 = cc in omega arith)
 
 -- A turn without a read.
-pub nothing_read : (made : ℕ) (s s' : Session) (window window' text : List ℕ) (h : History) → Stands h s window text → made ≤ moved h → is_listing s.stage ≡ false → (s.stage ≡ Reading → ⊥) → s' ≡ s → window' ≡ window → Within made s' window' text
-nothing_read made s s' window window' text h st e f d x y = rw (x, y) (h, st, d, rw f e)
+pub nothing_read : (made : ℕ) (s s' : Session) (window window' text : List ℕ) (h : History) → Stands h s window text → made ≤ moved h → is_listing s.stage ≡ false → is_reading s.stage ≡ false → s' ≡ s → window' ≡ window → Within made s' window' text
+nothing_read made s s' window window' text h st e f d x y = rw (x, y) (h, st, not_reading s.stage d, rw f e)
 
 -- A read gives a byte at least, or is the last.
 read_counts : (given : List ℕ) (reads : List (List ℕ)) (k made : ℕ) → input.ended reads ≡ false → made ≤ length (in_order reads) + k + cond (input.ended reads) 1 0 → made + 1 ≤ length (in_order (given ∷ reads)) + k + cond (input.ended (given ∷ reads)) 1 0
@@ -51,19 +64,19 @@ read_counts (b ∷ given) reads k made e l =
     let m : made ≤ length (in_order reads) + k + 0 = subst (λ (x : Bool). made ≤ length (in_order reads) + k + cond x 1 0) e l in
     omega (arith, a, m)
 
-something_read : (made : ℕ) (r : Session) (window text part : List ℕ) (got : ℤ) (h : History) → Stands (after_read got part h) r window text → r.stage ≡ stage_read got → ended h ≡ false → made ≤ moved h → Within made r window text
+something_read : (made : ℕ) (r : Session) (window text part : List ℕ) (got : Option ℕ) (h : History) → Stands (after_read got part h) r window text → r.stage ≡ stage_read got → ended h ≡ false → made ≤ moved h → Within made r window text
 something_read made r window text part got h st x e l = (after_read got part h, st, λ y. not_reading got (sym x ∙ y), subst (λ (y : Stage). cond (is_listing y) (made + 1) made ≤ moved (after_read got part h)) (sym x) (by got))
   where
-    not_reading : (got : ℤ) → stage_read got ≡ Reading → ⊥
-    not_reading (pos n) y = absurd (let o : ◌≡◌ {A = ℕ} 0 1 = cc in omega arith)
-    not_reading (negsuc n) y = absurd (let o : ◌≡◌ {A = ℕ} 0 1 = cc in omega arith)
+    not_reading : (got : Option ℕ) → stage_read got ≡ Listed More → ⊥
+    not_reading (Some n) y = absurd (let o : ◌≡◌ {A = ℕ} 0 1 = cc in omega arith)
+    not_reading None y = absurd (let o : ◌≡◌ {A = ℕ} 0 1 = cc in omega arith)
 
-    by : (got : ℤ) → cond (is_listing (stage_read got)) (made + 1) made ≤ moved (after_read got part h)
-    by (pos n) = read_counts (take n part) h.reads (length (handed h)) made e l
-    by (negsuc n) = l
+    by : (got : Option ℕ) → cond (is_listing (stage_read got)) (made + 1) made ≤ moved (after_read got part h)
+    by (Some n) = read_counts (take n part) h.reads (length (handed h)) made e l
+    by None = l
 
 -- A read into the window from the bytes held on.
-pub read_then : (made : ℕ) (h : History) (s r s' : Session) (before window window' text given : List ℕ) (got : ℤ) → Stands h s before text → s.stage ≡ Reading → made ≤ moved h → window ≡ take s.input.held before ++ given → length window ≡ length before → r.stage ≡ stage_read got → ((h : History) (text : List ℕ) → s.stage ≡ Reading → Stands h s window text → Stands (after_read got (drop s.input.held window) h) r window text) → s' ≡ r → window' ≡ window → Within made s' window' text
+pub read_then : (made : ℕ) (h : History) (s r s' : Session) (before window window' text given : List ℕ) (got : Option ℕ) → Stands h s before text → s.stage ≡ Listed More → made ≤ moved h → window ≡ take s.input.held before ++ given → length window ≡ length before → r.stage ≡ stage_read got → ((h : History) (text : List ℕ) → s.stage ≡ Listed More → Stands h s window text → Stands (after_read got (drop s.input.held window) h) r window text) → s' ≡ r → window' ≡ window → Within made s' window' text
 read_then made h s r s' before window window' text given got st reading e w l x f y z =
     let k : take s.input.held window ≡ take s.input.held before = ap (take s.input.held) w ∙ take_at (take s.input.held before) given s.input.held (length-take-le s.input.held before st.input.inside) in
     let kept = input_stands h s before text st s.input window (kept_shows h.reads s.input before st.input window k l) refl in
@@ -71,10 +84,10 @@ read_then made h s r s' before window window' text given got st reading e w l x 
 
 listing_stage : (x : Stage) → is_listing x ≡ true → x ≡ Listing
 listing_stage Listing e = refl
-listing_stage Full e = absurd (let o : ◌≡◌ {A = ℕ} 0 1 = cc in omega arith)
-listing_stage Reading e = absurd (let o : ◌≡◌ {A = ℕ} 0 1 = cc in omega arith)
-listing_stage Listed e = absurd (let o : ◌≡◌ {A = ℕ} 0 1 = cc in omega arith)
-listing_stage TooLong e = absurd (let o : ◌≡◌ {A = ℕ} 0 1 = cc in omega arith)
+listing_stage (Listed Going) e = absurd (let o : ◌≡◌ {A = ℕ} 0 1 = cc in omega arith)
+listing_stage (Listed More) e = absurd (let o : ◌≡◌ {A = ℕ} 0 1 = cc in omega arith)
+listing_stage (Listed Done) e = absurd (let o : ◌≡◌ {A = ℕ} 0 1 = cc in omega arith)
+listing_stage (Listed TooLong) e = absurd (let o : ◌≡◌ {A = ℕ} 0 1 = cc in omega arith)
 listing_stage Unreadable e = absurd (let o : ◌≡◌ {A = ℕ} 0 1 = cc in omega arith)
 listing_stage Unwritable e = absurd (let o : ◌≡◌ {A = ℕ} 0 1 = cc in omega arith)
 
@@ -88,13 +101,13 @@ over_stage true x e = by (is_over x) refl e
     by false q e = absurd (let o : ◌≡◌ {A = ℕ} 0 1 = cc in omega arith)
 
 -- A write after which the listing goes on has text to write: no line had room.
-text_waits : (taken : Bool) (x : Stage) (n : Next) (len waiting offset frames : ℕ) → is_listing (stage_written taken x) ≡ true → is_listing x ≡ false → (x ≡ Reading → ⊥) → 128 ≤ len → Because x n len waiting offset frames → 0 < waiting
+text_waits : (taken : Bool) (x : Stage) (n : Next) (len waiting offset frames : ℕ) → is_listing (stage_written taken x) ≡ true → is_listing x ≡ false → (x ≡ Listed More → ⊥) → 128 ≤ len → Because x n len waiting offset frames → 0 < waiting
 text_waits false x n len waiting offset frames e f d l b = absurd (let o : ◌≡◌ {A = ℕ} 0 1 = cc in omega arith)
 text_waits true Listing n len waiting offset frames e f d l b = absurd (let o : ◌≡◌ {A = ℕ} 0 1 = cc in omega arith)
-text_waits true Full n len waiting offset frames e f d l b = omega (arith, l, b)
-text_waits true Reading n len waiting offset frames e f d l b = absurd (d refl)
-text_waits true Listed n len waiting offset frames e f d l b = absurd (let o : ◌≡◌ {A = ℕ} 0 1 = cc in omega arith)
-text_waits true TooLong n len waiting offset frames e f d l b = absurd (let o : ◌≡◌ {A = ℕ} 0 1 = cc in omega arith)
+text_waits true (Listed Going) n len waiting offset frames e f d l b = omega (arith, l, b)
+text_waits true (Listed More) n len waiting offset frames e f d l b = absurd (d refl)
+text_waits true (Listed Done) n len waiting offset frames e f d l b = absurd (let o : ◌≡◌ {A = ℕ} 0 1 = cc in omega arith)
+text_waits true (Listed TooLong) n len waiting offset frames e f d l b = absurd (let o : ◌≡◌ {A = ℕ} 0 1 = cc in omega arith)
 text_waits true Unreadable n len waiting offset frames e f d l b = absurd (let o : ◌≡◌ {A = ℕ} 0 1 = cc in omega arith)
 text_waits true Unwritable n len waiting offset frames e f d l b = absurd (let o : ◌≡◌ {A = ℕ} 0 1 = cc in omega arith)
 
@@ -103,7 +116,7 @@ pub read_again : (made : ℕ) (s s' : Session) (window text : List ℕ) → With
 read_again made s s' window text (h, st, d, e) l x = rw x (h, st, listing_stage s.stage l, subst (λ (b : Bool). cond b (made + 1) made ≤ moved h) l e)
 
 -- A run that stops.
-ran : (h : History) (s : Session) (window text : List ℕ) → Stands h s window text → ((is_over s.stage ≡ true) × (s.waiting ≡ 0)) ⊎ (greatest ≤ length (capture h) + length (handed h) + 1) → (s.stage ≡ Listed → s.waiting ≡ 0) → Ran s window text
+ran : (h : History) (s : Session) (window text : List ℕ) → Stands h s window text → ((is_over s.stage ≡ true) × (s.waiting ≡ 0)) ⊎ (greatest ≤ length (capture h) + length (handed h) + 1) → (s.stage ≡ Listed Done → s.waiting ≡ 0) → Ran s window text
 ran h s window text st stops z =
     record {
       history = h;

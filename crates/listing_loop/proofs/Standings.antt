@@ -6,9 +6,9 @@ use mathlib.Core.List.{List, [], ◌∷◌, ◌++◌, append_assoc, append-nil}
 use mathlib.Core.Logic.{◌⊎◌, inl, inr}
 use Prim.Native.Nat.{ℕ, ◌≤◌, ◌<◌}
 use native.Mathlib.Omega.{arith}
-use lib.IntN.{ℤ, pos, negsuc}
 use lib.ListN.{length, take, drop}
 use lib.Seq.{length-take-le}
+use Rattle.std.specs.Prelude.{Option, None, Some}
 use Rattle.captures.specs.Following.{Next, more, refused, Rest}
 use Rattle.captures.proofs.Followings.{more_is_short, more_may_come}
 use Rattle.input_window.specs.Reads.{in_order}
@@ -18,12 +18,13 @@ use Rattle.input_window.specs.declared.input.Input.{Input}
 use Rattle.input_window.proofs.Windows.{ends_by_nothing}
 use Rattle.listing_text.specs.Listing.{limit, lines_of, listing}
 use Rattle.listing_text.proofs.Lines.{closes_at}
+use Rattle.listing_text.specs.declared.listing.State.TheVariants.{Going, More, Done, TooLong}
 use Rattle.listing_loop.specs.History.{History, nothing_yet, capture, handed, ended, after_read, after_write}
 use Rattle.listing_loop.specs.Stages.{is_failed, stage_read, stage_written}
 use Rattle.listing_loop.specs.Standing.{Begins, Because, next, Stands}
 use Rattle.listing_loop.specs.declared.session.Session.{Session}
 use Rattle.listing_loop.specs.declared.session.Stage.{Stage}
-use Rattle.listing_loop.specs.declared.session.Stage.TheVariants.{Listing, Full, Reading, Listed, TooLong, Unreadable, Unwritable}
+use Rattle.listing_loop.specs.declared.session.Stage.TheVariants.{Listing, Listed, Unreadable, Unwritable}
 
 -- At the start nothing was read, and the whole listing is left.
 pub start_stands : (i : Input) → i.offset ≡ 0 → ((window : List ℕ) → Shows [] i window) → (window text : List ℕ) → Stands nothing_yet (record { input = i; frames = 0; waiting = 0; stage = Listing }) window text
@@ -31,16 +32,13 @@ unfolding in_order
 start_stands i e s window text =
     record { input = s window; room = omega arith; fails = refl; lines = λ rest r. rw e; because = tt }
 
-pub part_length : (n : ℕ) (text : List ℕ) → n ≤ length text → n ≡ length (take n text)
-part_length n text h = sym (length-take-le n text h)
-
 -- At every stage the text made so far is the start of the listing.
 begins_with : (x : Stage) (all made left : List ℕ) → Begins x all made left → (more : List ℕ) × (all ≡ made ++ more)
 begins_with Listing all made left b = (left, b)
-begins_with Full all made left b = (left, b)
-begins_with Reading all made left b = (left, b)
-begins_with Listed all made left b = ([], b ∙ sym (append-nil made))
-begins_with TooLong all made left b = (left, b)
+begins_with (Listed Going) all made left b = (left, b)
+begins_with (Listed More) all made left b = (left, b)
+begins_with (Listed Done) all made left b = ([], b ∙ sym (append-nil made))
+begins_with (Listed TooLong) all made left b = (left, b)
 begins_with Unreadable all made left b = (left, b)
 begins_with Unwritable all made left b = b
 
@@ -53,10 +51,10 @@ module _ (R : List ℕ → Type 0) (all left : List ℕ → List ℕ) (made : Li
   known_then : (taken : Bool) (x : Stage) (waiting : ℕ) (failed : Bool) → Known x waiting failed → Known (stage_written taken x) 0 (cond taken failed true)
   known_then false x waiting failed k = (λ rest r. begins_with x _ _ _ (k.0 rest r), tt, refl)
   known_then true Listing waiting failed k = (k.0, tt, k.2)
-  known_then true Full waiting failed k = (k.0, tt, k.2)
-  known_then true Reading waiting failed k = (k.0, tt, k.2)
-  known_then true Listed waiting failed k = k
-  known_then true TooLong waiting failed k = k
+  known_then true (Listed Going) waiting failed k = (k.0, tt, k.2)
+  known_then true (Listed More) waiting failed k = (k.0, tt, k.2)
+  known_then true (Listed Done) waiting failed k = k
+  known_then true (Listed TooLong) waiting failed k = k
   known_then true Unreadable waiting failed k = k
   known_then true Unwritable waiting failed k = k
 
@@ -70,7 +68,7 @@ module _ (h : History) (s : Session) (window text : List ℕ) (st : Stands h s w
   input_stands i window' shows e =
       record { input = shows; room = st.room; fails = st.fails; lines = λ rest r. rw e (st.lines rest r); because = rw e st.because }
 
-  module _ (reading : s.stage ≡ Reading) where
+  module _ (reading : s.stage ≡ Listed More) where
     needs_more : next h s ≡ more
     needs_more = subst (λ (x : Stage). Because x (next h s) (length text) s.waiting s.input.offset s.frames) reading st.because
 
@@ -87,9 +85,9 @@ module _ (h : History) (s : Session) (window text : List ℕ) (st : Stands h s w
     left_so rest = subst (λ (x : Stage). Begins x (listing (capture h ++ rest)) (handed h ++ take s.waiting text) (lines_of (drop s.input.offset (capture h ++ rest)) s.input.offset s.frames)) reading (st.lines rest (subst (λ (x : Bool). Rest x rest) (sym not_ended) tt))
 
     -- A read that gave bytes, or failed.
-    pub read_stands : (got : ℤ) (part : List ℕ) (i : Input) (x : Stage) → Shows (input.after_read got part h.reads) i window → i.offset ≡ s.input.offset → x ≡ stage_read got → Stands (after_read got part h) (record { input = i; frames = s.frames; waiting = s.waiting; stage = x }) window text
+    pub read_stands : (got : Option ℕ) (part : List ℕ) (i : Input) (x : Stage) → Shows (input.after_read got part h.reads) i window → i.offset ≡ s.input.offset → x ≡ stage_read got → Stands (after_read got part h) (record { input = i; frames = s.frames; waiting = s.waiting; stage = x }) window text
     unfolding in_order
-    read_stands (pos n) part i x shows e z =
+    read_stands (Some n) part i x shows e z =
         rw z
         (record {
           input = shows;
@@ -98,7 +96,7 @@ module _ (h : History) (s : Session) (window text : List ℕ) (st : Stands h s w
           lines = λ rest r. rw (e, append_assoc (capture h) (take n part) rest) (left_so (take n part ++ rest));
           because = tt;
         })
-    read_stands (negsuc k) part i x shows e z =
+    read_stands None part i x shows e z =
         rw z (record { input = shows; room = st.room; fails = refl; lines = λ rest r. rw e (left_so rest); because = rw e needs_more })
 
   -- A write of the text that waits, which took it or failed.
@@ -114,12 +112,12 @@ module _ (h : History) (s : Session) (window text : List ℕ) (st : Stands h s w
       let b = begins_with s.stage _ _ _ (st.lines rest r) in
       (take s.waiting text ++ b.0, b.1 ∙ append_assoc (handed h) (take s.waiting text) b.0)
 
-  pub whole_listing : s.stage ≡ Listed → s.waiting ≡ 0 → handed h ≡ listing (capture h)
+  pub whole_listing : s.stage ≡ Listed Done → s.waiting ≡ 0 → handed h ≡ listing (capture h)
   whole_listing x z =
       let b : listing (capture h ++ []) ≡ handed h ++ take s.waiting text = subst (λ (y : Stage). Begins y (listing (capture h ++ [])) (handed h ++ take s.waiting text) (lines_of (drop s.input.offset (capture h ++ [])) s.input.offset s.frames)) x (st.lines [] (none_left (ended h))) in
       sym (rw (append-nil, z, append-nil) at b)
 
-  pub listing_closed : s.stage ≡ Listed → ((earlier : List (List ℕ)) × (h.reads ≡ [] ∷ earlier)) ⊎ ((number : ℕ) × (next h s ≡ refused number))
+  pub listing_closed : s.stage ≡ Listed Done → ((earlier : List (List ℕ)) × (h.reads ≡ [] ∷ earlier)) ⊎ ((number : ℕ) × (next h s ≡ refused number))
   listing_closed x = by (closes_at (drop s.input.offset (capture h)) (ended h) (subst (λ (y : Stage). Because y (next h s) (length text) s.waiting s.input.offset s.frames) x st.because))
     where
       by : (ended h ≡ true) ⊎ ((number : ℕ) × (next h s ≡ refused number)) → ((earlier : List (List ℕ)) × (h.reads ≡ [] ∷ earlier)) ⊎ ((number : ℕ) × (next h s ≡ refused number))

@@ -1,6 +1,6 @@
 -- What has passed between a listing and the operating system. No contract says which bytes a read gives or what becomes of
 -- those that a write takes, so the statements hold of every history.
-use Rattle.std.specs.Prelude.{Bool, true, false, cond, List, [], ◌∷◌, ℕ, ℤ, pos, negsuc}
+use Rattle.std.specs.Prelude.{Bool, true, false, cond, List, [], ◌∷◌, ℕ, Option, None, Some}
 use Rattle.input_window.specs.Reads as input
 
 -- What each read gave, and the text that each write was handed, the last one first; and whether one of them failed.
@@ -25,13 +25,13 @@ handed h = input.in_order h.writes
 abbrev pub ended : History → Bool
 ended h = input.ended h.reads
 
--- A read that answers a negative number failed.
-abbrev pub gave : ℤ → Bool
-gave (pos n) = true
-gave (negsuc n) = false
+-- A read that answers no number failed.
+abbrev pub gave : Option ℕ → Bool
+gave (Some n) = true
+gave None = false
 
 -- A read gave the start of this part of the window, or failed.
-abbrev pub after_read : ℤ → List ℕ → History → History
+abbrev pub after_read : Option ℕ → List ℕ → History → History
 after_read got part h = record { reads = input.after_read got part h.reads; writes = h.writes; failed = cond (gave got) h.failed true }
 
 -- A write was handed this text, and took it or failed.

@@ -6,20 +6,21 @@ use Rattle.captures.specs.Following.{Next, framed, more, following, Rest}
 use Rattle.input_window.specs.Window.{Shows}
 use Rattle.listing_text.specs.Listing.{limit, closes, lines_of, listing}
 use Rattle.listing_text.specs.Steps.{too_long}
+use Rattle.listing_text.specs.declared.listing.State.TheVariants.{Going, More, Done, TooLong}
 use Rattle.listing_loop.specs.History.{History, capture, handed, ended}
 use Rattle.listing_loop.specs.Stages.{is_failed}
 use Rattle.listing_loop.specs.declared.session.Session.{Session}
 use Rattle.listing_loop.specs.declared.session.Stage.{Stage}
-use Rattle.listing_loop.specs.declared.session.Stage.TheVariants.{Listing, Full, Reading, Listed, TooLong, Unreadable, Unwritable}
+use Rattle.listing_loop.specs.declared.session.Stage.TheVariants.{Listing, Listed, Unreadable, Unwritable}
 
 -- The listing of a capture is the text made so far, followed by the lines that are left. None are left once it is listed;
 -- what is left after a write that failed is not said.
 abbrev pub Begins : Stage → List ℕ → List ℕ → List ℕ → Type 0
 Begins Listing all made left = all ≡ made ++ left
-Begins Full all made left = all ≡ made ++ left
-Begins Reading all made left = all ≡ made ++ left
-Begins Listed all made left = all ≡ made
-Begins TooLong all made left = all ≡ made ++ left
+Begins (Listed Going) all made left = all ≡ made ++ left
+Begins (Listed More) all made left = all ≡ made ++ left
+Begins (Listed Done) all made left = all ≡ made
+Begins (Listed TooLong) all made left = all ≡ made ++ left
 Begins Unreadable all made left = all ≡ made ++ left
 Begins Unwritable all made left = (unwritten : List ℕ) × (all ≡ made ++ unwritten)
 
@@ -31,10 +32,10 @@ next h s = following (drop s.input.offset (capture h)) (ended h) limit
 -- needed; what comes next closes the listing; or a frame would end beyond the greatest offset or count.
 abbrev pub Because : Stage → Next → ℕ → ℕ → ℕ → ℕ → Type 0
 Because Listing n len waiting offset frames = Unit
-Because Full n len waiting offset frames = len < waiting + 128
-Because Reading n len waiting offset frames = n ≡ more
-Because Listed n len waiting offset frames = closes n ≡ true
-Because TooLong n len waiting offset frames = (f : Fields Place) × (total : ℕ) × (n ≡ framed f total) × (too_long offset frames total ≡ true)
+Because (Listed Going) n len waiting offset frames = len < waiting + 128
+Because (Listed More) n len waiting offset frames = n ≡ more
+Because (Listed Done) n len waiting offset frames = closes n ≡ true
+Because (Listed TooLong) n len waiting offset frames = (f : Fields Place) × (total : ℕ) × (n ≡ framed f total) × (too_long offset frames total ≡ true)
 Because Unreadable n len waiting offset frames = n ≡ more
 Because Unwritable n len waiting offset frames = Unit
 

@@ -1,11 +1,12 @@
 // The capture listed, a read at a time (01 "The listing program").
-ghost use Rattle.std.specs.Prelude.{false, List, ◌≡◌, ℕ, ◌+◌, ◌≤◌, ◌<◌, ◌≤ℤ◌, pos, length, take, drop};
+ghost use Rattle.std.specs.Prelude.{false, List, ◌≡◌, ℕ, Option, IfSome, ◌+◌, ◌≤◌, ◌<◌, length, take, drop};
 ghost use Rattle.listing_loop.specs.History.{History, nothing_yet, after_read, after_write};
 ghost use Rattle.listing_loop.specs.Reader.{Gives};
 ghost use Rattle.listing_loop.specs.Run.{Ran};
-ghost use Rattle.listing_loop.specs.Stages.{is_listing, is_over, stage_listed, stage_read, stage_written};
+ghost use Rattle.listing_loop.specs.Stages.{is_listing, is_reading, is_over, stage_read, stage_written};
 ghost use Rattle.listing_loop.specs.Standing.{Stands};
-ghost use Rattle.listing_loop.specs.declared.session.Stage.TheVariants.{Listing, Reading};
+ghost use Rattle.listing_loop.specs.declared.session.Stage.TheVariants.{Listing, Listed};
+ghost use Rattle.listing_text.specs.declared.listing.State.TheVariants.{More};
 
 use input_window::Input;
 use listing_text::{LONGEST, State, list};
@@ -16,18 +17,60 @@ use std::io::{Read, Write};
 pub enum Stage {
     // The bytes that are there are to be listed.
     Listing,
-    // The text has no room for another line.
-    Full,
-    // More bytes are needed.
-    Reading,
-    // The closing line is made.
-    Listed,
-    // The offset or the count of frames would pass 2^64 - 1.
-    TooLong,
+    // They are listed as far as it goes, and this is why it goes no further: the text has no room, more bytes are needed, the
+    // closing line is made, or the numbers are too long.
+    Listed(State),
     // A read failed.
     Unreadable,
     // A write failed.
     Unwritable,
+}
+
+impl Stage {
+    // After a read, by how many bytes it gave, if it did not fail.
+    fn after_read(got: Option<usize>) -> Self
+        ensures { result ≡ stage_read got }
+    {
+        match got {
+            Some(_) => Stage::Listing,
+            None => Stage::Unreadable,
+        }
+    }
+
+    // After a write, which took its text or failed.
+    fn after_write(self, taken: bool) -> Self
+        ensures { result ≡ stage_written taken self }
+    {
+        if !taken {
+            Stage::Unwritable
+        } else if self.is_over() {
+            self
+        } else {
+            Stage::Listing
+        }
+    }
+
+    fn is_listing(self) -> bool
+        ensures { result ≡ is_listing self }
+    {
+        matches!(self, Stage::Listing)
+    }
+
+    // More bytes are needed.
+    fn is_reading(self) -> bool
+        ensures { result ≡ is_reading self }
+    {
+        matches!(self, Stage::Listed(State::More))
+    }
+
+    fn is_over(self) -> bool
+        ensures { result ≡ is_over self }
+    {
+        matches!(
+            self,
+            Stage::Listed(State::Done | State::TooLong) | Stage::Unreadable | Stage::Unwritable
+        )
+    }
 }
 
 // Where a listing is.
@@ -40,6 +83,84 @@ pub struct Session {
     // How many bytes at the start of the text are not written yet.
     pub waiting: usize,
     pub stage: Stage,
+}
+
+impl Session {
+    // Nothing is read yet.
+    fn start() -> Self
+        ensures stage { result.stage ≡ Listing }
+        ensures stands { (window text : List ℕ) → Stands nothing_yet result window text }
+    {
+        Session {
+            input: Input::start(),
+            frames: 0,
+            waiting: 0,
+            stage: Stage::Listing,
+        }
+    }
+
+    // Lists what the window holds, as far as the text has room for it.
+    fn listed(self, window: &[u8], text: &mut [u8]) -> Self
+        requires { self.waiting ≤ length text.old }
+        ensures stage { is_listing result.stage ≡ false }
+        ensures stands { (h : History) → self.stage ≡ Listing → Stands h self window.now text.old → Stands h result window.now text.new }
+    {
+        let Input { ended, offset, .. } = self.input;
+        let rest = self.input.rest(window);
+        let p = list(rest, ended, offset, self.frames, &mut text[self.waiting..]);
+        Session {
+            input: self.input.taken(p.from),
+            frames: p.frames,
+            waiting: self.waiting + p.written,
+            stage: Stage::Listed(p.state),
+        }
+    }
+
+    // Where the longest frame has no room after what the window holds, what is not listed yet is moved to the front.
+    fn make_room(self, window: &mut [u8]) -> Self
+        ensures stands { (h : History) (text : List ℕ) → Stands h self window.old text → Stands h result window.new text }
+        ensures stage { result.stage ≡ self.stage }
+        ensures room { (h : History) (text : List ℕ) → self.stage ≡ Listed More → Stands h self window.old text → 65536 ≤ length window.old → result.input.held < length window.new }
+    {
+        Session {
+            input: self.input.make_room(window, LONGEST),
+            ..self
+        }
+    }
+
+    // After a read into the window from `held` on, by how many bytes it gave, if it did not fail.
+    fn received(self, window: &[u8], got: Option<usize>) -> Self
+        requires { self.input.held < length window.now }
+        ensures stage { result.stage ≡ stage_read got }
+        ensures stands { (h : History) (text : List ℕ) → self.stage ≡ Listed More → Stands h self window.now text → Stands (after_read got (drop self.input.held window.now) h) result window.now text }
+    {
+        Session {
+            input: self.input.received(window, got),
+            stage: Stage::after_read(got),
+            ..self
+        }
+    }
+
+    // The text that waits.
+    fn waiting(self, text: &[u8]) -> &[u8]
+        requires { self.waiting ≤ length text.now }
+        ensures { result.now ≡ take self.waiting text.now }
+    {
+        &text[..self.waiting]
+    }
+
+    // After a write of the lines that waited, which took them or failed. The lines are there for the contract alone.
+    fn wrote(self, lines: &[u8], taken: bool) -> Self
+        ensures waiting { result.waiting ≡ 0 }
+        ensures stage { result.stage ≡ stage_written taken self.stage }
+        ensures stands { (h : History) (window text : List ℕ) → lines.now ≡ take self.waiting text → Stands h self window text → Stands (after_write taken lines.now h) result window text }
+    {
+        Session {
+            waiting: 0,
+            stage: self.stage.after_write(taken),
+            ..self
+        }
+    }
 }
 
 // Lists what the reader gives to the writer, up to the first refusal or the input's end. The window holds four of the longest
@@ -69,193 +190,31 @@ fn turns<R: Read, W: Write>(
     requires text_size { 128 ≤ length text.old }
     ensures { Ran result window.new text.new }
 {
-    let mut made: u64 = 0;
-    let mut at = started();
-    while made < u64::MAX {
-        at = listed(window, text, at);
-        let stage = at.stage;
-        if let Stage::Reading = stage {
-            at = make_room(window, at);
-            let input = at.input;
-            let held = input.held;
+    let mut at = Session::start();
+    for made in 0..u64::MAX {
+        at = at.listed(window, text);
+        if at.stage.is_reading() {
+            at = at.make_room(window);
+            let held = at.input.held;
             let got = one_read(reader, &mut window[held..]);
-            at = received(window, at, got);
+            at = at.received(window, got);
         }
-        if !is_listing(at) {
-            let lines = waiting(text, at);
+        if !at.stage.is_listing() {
+            let lines = at.waiting(text);
             let taken = writer.write_all(lines).is_ok();
-            at = wrote(lines, at, taken);
-            if !is_listing(at) {
+            at = at.wrote(lines, taken);
+            if !at.stage.is_listing() {
                 return at;
             }
         }
-        made += 1;
     }
     at
 }
 
-// One read, by how many bytes it put at the start of the part, or by a negative number if it failed.
-fn one_read<R: Read>(reader: &mut R, part: &mut [u8]) -> isize
-    ensures within { result ≤ℤ pos (length part.new) }
+// One read, by how many bytes it put at the start of the part, if it did not fail.
+fn one_read<R: Read>(reader: &mut R, part: &mut [u8]) -> Option<usize>
+    ensures within { IfSome result (λ n. n ≤ length part.new) }
     ensures given { Gives (R.remaining reader.old) (R.remaining reader.new) result part.new }
 {
-    match reader.read(part) {
-        Ok(n) => n as isize,
-        Err(_) => -1,
-    }
-}
-
-// Nothing is read yet.
-fn started() -> Session
-    ensures stage { result.stage ≡ Listing }
-    ensures stands { (window text : List ℕ) → Stands nothing_yet result window text }
-{
-    let input = input_window::start();
-    Session {
-        input: input,
-        frames: 0,
-        waiting: 0,
-        stage: Stage::Listing,
-    }
-}
-
-// Lists what the window holds, as far as the text has room for it.
-fn listed(window: &[u8], text: &mut [u8], at: Session) -> Session
-    requires { at.waiting ≤ length text.old }
-    ensures stage { is_listing result.stage ≡ false }
-    ensures stands { (h : History) → at.stage ≡ Listing → Stands h at window.now text.old → Stands h result window.now text.new }
-{
-    let input = at.input;
-    let ended = input.ended;
-    let offset = input.offset;
-    let frames = at.frames;
-    let waiting = at.waiting;
-    let rest = input_window::rest(window, input);
-    let p = list(rest, ended, offset, frames, &mut text[waiting..]);
-    let from = p.from;
-    let state = p.state;
-    let input = input_window::taken(input, from);
-    let stage = stage_listed(state);
-    Session {
-        input: input,
-        frames: p.frames,
-        waiting: waiting + p.written,
-        stage: stage,
-    }
-}
-
-fn stage_listed(state: State) -> Stage
-    ensures { result ≡ stage_listed state }
-{
-    match state {
-        State::Going => Stage::Full,
-        State::More => Stage::Reading,
-        State::Done => Stage::Listed,
-        State::TooLong => Stage::TooLong,
-    }
-}
-
-// Where the longest frame has no room after what the window holds, what is not listed yet is moved to the front.
-fn make_room(window: &mut [u8], mut at: Session) -> Session
-    ensures stands { (h : History) (text : List ℕ) → Stands h at window.old text → Stands h result window.new text }
-    ensures stage { result.stage ≡ at.stage }
-    ensures room { (h : History) (text : List ℕ) → at.stage ≡ Reading → Stands h at window.old text → 65536 ≤ length window.old → result.input.held < length window.new }
-{
-    let input = at.input;
-    let input = input_window::make_room(window, input, LONGEST);
-    at.input = input;
-    at
-}
-
-// After a read into the window from `held` on, by what it answered.
-fn received(window: &[u8], at: Session, got: isize) -> Session
-    requires { at.input.held < length window.now }
-    ensures stage { result.stage ≡ stage_read got }
-    ensures stands { (h : History) (text : List ℕ) → at.stage ≡ Reading → Stands h at window.now text → Stands (after_read got (drop at.input.held window.now) h) result window.now text }
-{
-    let input = at.input;
-    let input = input_window::received(window, input, got);
-    let stage = stage_read(got);
-    Session {
-        input: input,
-        frames: at.frames,
-        waiting: at.waiting,
-        stage: stage,
-    }
-}
-
-fn stage_read(got: isize) -> Stage
-    ensures { result ≡ stage_read got }
-{
-    if got < 0 {
-        return Stage::Unreadable;
-    }
-    Stage::Listing
-}
-
-// The text that waits.
-fn waiting(text: &[u8], at: Session) -> &[u8]
-    requires { at.waiting ≤ length text.now }
-    ensures { result.now ≡ take at.waiting text.now }
-{
-    let n = at.waiting;
-    &text[..n]
-}
-
-// After a write of the lines that waited, which took them or failed. The lines are there for the contract alone.
-fn wrote(lines: &[u8], at: Session, taken: bool) -> Session
-    ensures waiting { result.waiting ≡ 0 }
-    ensures stage { result.stage ≡ stage_written taken at.stage }
-    ensures stands { (h : History) (window text : List ℕ) → lines.now ≡ take at.waiting text → Stands h at window text → Stands (after_write taken lines.now h) result window text }
-{
-    let input = at.input;
-    let before = at.stage;
-    let stage = stage_written(taken, before);
-    Session {
-        input: input,
-        frames: at.frames,
-        waiting: 0,
-        stage: stage,
-    }
-}
-
-fn stage_written(taken: bool, stage: Stage) -> Stage
-    ensures { result ≡ stage_written taken stage }
-{
-    if !taken {
-        return Stage::Unwritable;
-    }
-    if is_over(stage) {
-        return stage;
-    }
-    Stage::Listing
-}
-
-fn is_listing(at: Session) -> bool
-    ensures { result ≡ is_listing at.stage }
-{
-    let stage = at.stage;
-    match stage {
-        Stage::Listing => true,
-        Stage::Full => false,
-        Stage::Reading => false,
-        Stage::Listed => false,
-        Stage::TooLong => false,
-        Stage::Unreadable => false,
-        Stage::Unwritable => false,
-    }
-}
-
-fn is_over(stage: Stage) -> bool
-    ensures { result ≡ is_over stage }
-{
-    match stage {
-        Stage::Listing => false,
-        Stage::Full => false,
-        Stage::Reading => false,
-        Stage::Listed => true,
-        Stage::TooLong => true,
-        Stage::Unreadable => true,
-        Stage::Unwritable => true,
-    }
+    reader.read(part).ok()
 }

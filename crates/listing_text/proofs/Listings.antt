@@ -158,11 +158,6 @@ lists_more w ended p q r a b c l g m =
           ∙ (ap (λ (s : List ℕ). l.text ++ s) (m.lines rest f) ∙ sym (append_assoc l.text m.text _)));
     }
 
-pub lists_full : (w : List ℕ) (ended : Bool) (p q : Progress) (a b : List ℕ) → Lists w ended p a b q → q.state ≡ Going → length b < q.written + 128 → Stops w ended (length a) q
-lists_full w ended p q a b l g h =
-    let k : length b ≡ length a = lists_length w ended p a b q l in
-    subst (λ (s : State). Stopped s w ended (length a) q) (sym g) (omega (arith, k, h))
-
 -- The tests of the code.
 pub offset_long : (offset frames total : ℕ) → greatest - offset < total → true ≡ too_long offset frames total
 unfolding too_long
@@ -191,17 +186,9 @@ steps_long p f total t out r e i g =
     let h : too_long p.offset p.frames total ≡ true = sym e ∙ i in
     rw g (record { text = rw h; place = rw h })
 
-pub steps_frame : (p : Progress) (f : Fields Place) (total key version at : ℕ) (t : Bool) (entry exit : List ℕ) → t ≡ too_long p.offset p.frames total → t ≡ false → f.key ≡ key → f.version ≡ version → holds exit at ≡ puts entry p.written (frame_line p.offset total key version) → Steps (framed f total) p entry exit (advanced p total at)
-steps_frame p f total key version at t entry exit e i k v g =
-    let h : too_long p.offset p.frames total ≡ false = sym e ∙ i in
-    record { text = rw (h, k, v) g; place = rw h }
-
 pub steps_more : (p : Progress) (out : List ℕ) (r : Progress) → r ≡ halted p p.written More → Steps more p out out r
 unfolding puts
 steps_more p out r g = rw g (record { text = refl; place = refl })
-
-pub halted_at : (from offset frames : ℕ) (r : Progress) (at : ℕ) (exit : List ℕ) (h : Holds) (s : State) → holds exit at ≡ h → r ≡ record { from = from; offset = offset; frames = frames; written = at; state = s } → (holds exit r.written ≡ h) × (r ≡ record { from = from; offset = offset; frames = frames; written = r.written; state = s })
-halted_at from offset frames r at exit h s e f = rw f (e, refl)
 
 -- A frame at a place of the window lies in it, and its key and version are in the slots.
 pub record FrameAt (w : List ℕ) (from : ℕ) (ended : Bool) (len : ℕ) (slots : List ℕ) : Type 0 where

@@ -45,6 +45,71 @@ pub struct Progress {
     pub state: State,
 }
 
+impl Progress {
+    // Prints what comes next.
+    fn step(self, window: &[u8], ended: bool, out: &mut [u8]) -> Self
+        requires { self.from ≤ length window.now }
+        ensures { Steps (following (drop self.from window.now) ended limit) self out.old out.new result }
+    {
+        let at = self.written;
+        let mut slots = [0u64; 24];
+        match next_frame(&window[self.from..], ended, LIMIT, &mut slots) {
+            Next::Frame { length } => self.frame_step(
+                out,
+                length,
+                slots[0] as u16,
+                slots[1] as u16,
+            ),
+            Next::Whole => self.closed(out, at, b" whole\n"),
+            Next::Cut { left, needed } => {
+                let behind = cut_line(out, at, self.offset, left, needed);
+                self.closed(out, behind, b" cut\n")
+            }
+            Next::Refused { number } => {
+                let behind = refused_line(out, at, self.offset, number);
+                self.closed(out, behind, b" refused\n")
+            }
+            Next::More => self.halted(at, State::More),
+        }
+    }
+
+    fn frame_step(self, out: &mut [u8], total: u64, key: u16, version: u16) -> Self
+        requires { self.from + total ≤ greatest }
+        ensures { (f : Fields Place) → f.key ≡ key → f.version ≡ version → Steps (framed f total) self out.old out.new result }
+    {
+        if too_long(self.offset, self.frames, total) {
+            return self.halted(self.written, State::TooLong);
+        }
+        Progress {
+            from: self.from + total as usize,
+            offset: self.offset + total,
+            frames: self.frames + 1,
+            written: frame_line(out, self.written, self.offset, total, key, version),
+            state: State::Going,
+        }
+    }
+
+    // The closing line, at a place of out.
+    fn closed(self, out: &mut [u8], at: usize, ending: &[u8]) -> Self
+        ensures written_after { holds out.new result.written ≡ puts out.old at (closing_line self.frames ending.now) }
+        ensures value { result ≡ halted self result.written Done }
+    {
+        let written = closing_line(out, at, self.frames, ending);
+        self.halted(written, State::Done)
+    }
+
+    // No further in the capture, with so much text.
+    fn halted(self, written: usize, state: State) -> Self
+        ensures { result ≡ halted self written state }
+    {
+        Progress {
+            written,
+            state,
+            ..self
+        }
+    }
+}
+
 // Lists the window's frames, as many as are whole and as out has room for. The window starts at an offset of the capture,
 // after so many frames; nothing follows it if the capture has ended.
 pub fn list(window: &[u8], ended: bool, offset: u64, frames: u64, out: &mut [u8]) -> Progress
@@ -53,93 +118,23 @@ pub fn list(window: &[u8], ended: bool, offset: u64, frames: u64, out: &mut [u8]
 {
     let mut p = Progress {
         from: 0,
-        offset: offset,
-        frames: frames,
+        offset,
+        frames,
         written: 0,
         state: State::Going,
     };
     while p.written + ROOM <= out.len() {
-        p = step(window, ended, p, out);
-        let state = p.state;
-        let State::Going = state else {
+        p = p.step(window, ended, out);
+        let State::Going = p.state else {
             return p;
         };
     }
     p
 }
 
-// Prints what comes next.
-fn step(window: &[u8], ended: bool, p: Progress, out: &mut [u8]) -> Progress
-    requires { p.from ≤ length window.now }
-    ensures { Steps (following (drop p.from window.now) ended limit) p out.old out.new result }
-{
-    let from = p.from;
-    let offset = p.offset;
-    let at = p.written;
-    let mut slots = [0u64; 24];
-    match next_frame(&window[from..], ended, LIMIT, &mut slots) {
-        Next::Frame { length } => frame_step(p, out, length, slots[0] as u16, slots[1] as u16),
-        Next::Whole => closed(p, out, at, b" whole\n"),
-        Next::Cut { left, needed } => {
-            let behind = cut_line(out, at, offset, left, needed);
-            closed(p, out, behind, b" cut\n")
-        }
-        Next::Refused { number } => {
-            let behind = refused_line(out, at, offset, number);
-            closed(p, out, behind, b" refused\n")
-        }
-        Next::More => halt(p, at, State::More),
-    }
-}
-
-fn frame_step(p: Progress, out: &mut [u8], total: u64, key: u16, version: u16) -> Progress
-    requires { p.from + total ≤ greatest }
-    ensures { (f : Fields Place) → f.key ≡ key → f.version ≡ version → Steps (framed f total) p out.old out.new result }
-{
-    let from = p.from;
-    let offset = p.offset;
-    let frames = p.frames;
-    let at = p.written;
-    if too_long(offset, frames, total) {
-        return halt(p, at, State::TooLong);
-    }
-    let next = frame_line(out, at, offset, total, key, version);
-    Progress {
-        from: from + total as usize,
-        offset: offset + total,
-        frames: frames + 1,
-        written: next,
-        state: State::Going,
-    }
-}
-
+// The offset behind such a frame, or the count of frames with it, would pass 2^64 - 1.
 fn too_long(offset: u64, frames: u64, total: u64) -> bool
     ensures { result ≡ too_long offset frames total }
 {
-    if u64::MAX - offset < total {
-        return true;
-    }
-    frames == u64::MAX
-}
-
-// The closing line, at a place of out.
-fn closed(p: Progress, out: &mut [u8], at: usize, ending: &[u8]) -> Progress
-    ensures written_after { holds out.new result.written ≡ puts out.old at (closing_line p.frames ending.now) }
-    ensures value { result ≡ halted p result.written Done }
-{
-    let frames = p.frames;
-    let next = closing_line(out, at, frames, ending);
-    halt(p, next, State::Done)
-}
-
-fn halt(p: Progress, written: usize, state: State) -> Progress
-    ensures { result ≡ halted p written state }
-{
-    Progress {
-        from: p.from,
-        offset: p.offset,
-        frames: p.frames,
-        written: written,
-        state: state,
-    }
+    u64::MAX - offset < total || frames == u64::MAX
 }

@@ -2,41 +2,34 @@
 ghost use Rattle.std.specs.Prelude.{◌≡◌};
 ghost use Rattle.protocol.specs.Fields as F;
 ghost use Rattle.protocol.specs.Kinds.{list_of};
+ghost use Rattle.protocol.specs.Refusals.{number_in};
 ghost use Rattle.rules.specs.Reading.{read_field};
 ghost use Rattle.rules.specs.Writing.{write_field};
-ghost use Rattle.byte_strings.specs.Stops.{stop, refusal_of};
+ghost use Rattle.byte_strings.specs.Stops.{stop, told, refusal_of};
 
-use byte_strings::Stop;
+use byte_strings::Fault;
 use elements::elements_end;
-use number_lists::{count_at, count_refusal, left_refusal, place_refusal};
-use protocol::ListKind;
+use number_lists::{check_left, check_place, list_count};
+use protocol::{Elements, ListKind, Refusal};
 
 // Where the list at a place ends, or why it is refused: the count (6, 7), then the elements.
-pub fn list_end(s: &[u8], at: usize, kind: ListKind) -> Stop
-    ensures { result ≡ stop (read_field (list_of kind) s.now at) }
+pub fn list_end(s: &[u8], at: usize, kind: ListKind) -> Result<usize, Fault>
+    ensures { told result ≡ stop (read_field (list_of kind) s.now at) }
 {
-    let number = count_refusal(s, at);
-    if number != 0 {
-        return Stop::refuse(at, number);
-    }
-    let element = kind.element;
-    elements_end(s, at + 4, element, count_at(s, at))
+    let count = list_count(s, at)?;
+    elements_end(s, at + 4, kind.element, count)
 }
 
-// The number that a list is refused with, 0 if it is written: the count (7), the place (6), then the elements as when read, and
-// no bytes left (11).
-pub fn list_refusal(src: &[u8], kind: ListKind, count: usize, at: usize, len: usize) -> u8
-    ensures { result ≡ refusal_of (write_field (list_of kind) src.now (F.elements count (F.place at len))) }
+// Why a list is not written: the count (7), the place (6), then the elements as when read, and no bytes left (11).
+pub fn check_list(src: &[u8], kind: ListKind, list: Elements) -> Result<(), Refusal>
+    ensures { number_in result ≡ refusal_of (write_field (list_of kind) src.now (F.elements list.count list.place)) }
 {
-    let number = place_refusal(src, count, at, len);
-    if number != 0 {
-        return number;
-    }
+    check_place(src, list)?;
+    let at = list.place.at;
+    let len = list.place.len;
     let end = at + len;
-    let element = kind.element;
-    let last = elements_end(&src[at..end], 0, element, count);
-    if last.refused != 0 {
-        return last.refused;
+    match elements_end(&src[at..end], 0, kind.element, list.count) {
+        Ok(last) => check_left(last, len),
+        Err(fault) => Err(fault.refusal),
     }
-    left_refusal(last.at, len)
 }

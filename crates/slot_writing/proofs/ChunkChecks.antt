@@ -22,8 +22,9 @@ use Rattle.rules.specs.Outcome.{Outcome, got, refused, then, refuse_if, repeated
 use Rattle.rules.specs.Reading.{is_chunk_type, has_entries, read_entry}
 use Rattle.rules.specs.Writing.{wrote, checked, fits_header, used_up, write_chunk, write_field}
 use Rattle.rules.proofs.Bounds.{numbered_entry, numbered_repeated}
-use Rattle.byte_strings.specs.Stops.{stop, refusal_of}
-use Rattle.byte_strings.specs.declared.stop.Stop.{Stop}
+use Rattle.byte_strings.specs.Stops.{Stop, stop, told, refusal_of}
+use Rattle.byte_strings.specs.declared.fault.Fault.{Fault}
+use Rattle.std.specs.Prelude.{Result, Ok, Err}
 use Rattle.byte_strings.proofs.Checked.{Only, only_checked, only_used, only_these, check_passed}
 use Rattle.byte_strings.proofs.Parts.{lent}
 use Rattle.chunks.specs.Entries.{entries_from}
@@ -139,3 +140,8 @@ chunk_length src h p i =
 
 pub copied_from : (o q src : List ℕ) (n m a b x y : ℕ) → a ≡ x → b ≡ y → holds q m ≡ copied o n src a b → holds q m ≡ copied o n src x y
 copied_from o q src n m a b x y e f i = i ∙ (λ j. copied o n src (e j) (f j))
+
+-- A reader that does not answer `Err` tells no refusal.
+pub none_told : (r : Result ℕ Fault) → ((f : Fault) → r ≡ Err f → ⊥) → (told r).refused ≡ 0
+none_told (Ok n) h = refl
+none_told (Err f) h = absurd (h f refl)

@@ -1,5 +1,5 @@
 -- Lemmas that belong to no one function.
 pub mod FlatFields
 pub mod Rows
-pub mod ChunkChecks
 pub mod Narrowing
+pub mod ChunkChecks

@@ -1,3 +1,2 @@
 -- Fields written from their slots.
-pub mod Writing
 pub mod Narrow

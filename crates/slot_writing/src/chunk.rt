@@ -1,153 +1,126 @@
 // Writing a chunk from its slots.
-ghost use Rattle.std.specs.Prelude.{◌≡◌, drop};
+ghost use Rattle.std.specs.Prelude.{◌≡◌};
 ghost use Rattle.wire.specs.Buffer.{holds, put};
 ghost use Rattle.wire.specs.Integers.{digits, width_of};
 ghost use Rattle.wire.specs.Signed.{signed, unsigned};
 ghost use Rattle.protocol.specs.Kinds as K;
+ghost use Rattle.protocol.specs.Refusals.{number_in};
 ghost use Rattle.rules.specs.Writing.{fits_header, write_field};
 ghost use Rattle.byte_strings.specs.Stops.{refusal_of};
-ghost use Rattle.fields.specs.Writer.{state, put_field, put_header};
+ghost use Rattle.fields.specs.Passes.{length_told, measured, put_field, put_header};
 ghost use Rattle.slots.specs.Unflat.{unflat_field, unflat_header};
-ghost use Rattle.slot_writing.specs.Narrow.{narrow, narrow_fits};
-ghost use Rattle.slot_writing.specs.Writing.{step_flat};
+ghost use Rattle.slot_writing.specs.Narrow.{narrow};
 
 use chunks::{entries_of, has_entries, is_chunk_type};
-use fields::{Writer, is_outside, largest};
-use protocol::{Place, refusal};
+use fields::{is_number, is_outside, largest};
+use protocol::{Place, Refusal};
 use slots::slot;
-use wire::Width;
+use wire::{Unsigned, Width};
 
-// A chunk whose slots start at a place.
-pub fn write_chunk_slots(w: Writer, src: &[u8], out: &mut [u8], slots: &[u64], at: usize) -> Writer
-    ensures { state result out.new ≡ step_flat K.chunk src.now (drop at slots.now) (state w out.old) }
+// Why the chunk whose slots these are is not written: type, and a header number too wide (10); the data's place (6); data
+// shorter than the data length (6), longer (11); and for type 0 the entries.
+pub fn check_chunk(src: &[u8], slots: &[u64]) -> Result<(), Refusal>
+    ensures { number_in result ≡ refusal_of (write_field K.chunk src.now (unflat_field K.chunk slots.now)) }
 {
-    let place = w.at;
-    if w.refused != 0 {
-        return w;
+    let kind = slot(slots, 0, 1);
+    let data_length = slot(slots, 0, 8) as usize;
+    let from = slot(slots, 0, 12) as usize;
+    let len = slot(slots, 0, 13) as usize;
+    if !is_chunk_type(kind) || !header_fits(slots) {
+        return Err(Refusal::ValueNotAdmitted);
     }
-    if w.putting {
-        return Writer::at_place(put_chunk(out, place, src, slots, at));
-    }
-    let number = chunk_refusal(src, slots, at);
-    if number != 0 {
-        return w.refuse(number);
-    }
-    let len = slot(slots, at, 13) as usize;
-    w.count(48 + len)
-}
-
-// The number that a chunk is refused with, 0 if it is written: type, and a header number too wide (10); the data's place (6);
-// data shorter than the data length (6), longer (11); and for type 0 the entries.
-pub fn chunk_refusal(src: &[u8], slots: &[u64], at: usize) -> u8
-    ensures { result ≡ refusal_of (write_field K.chunk src.now (unflat_field K.chunk (drop at slots.now))) }
-{
-    let kind = slot(slots, at, 1);
-    let data_length = slot(slots, at, 8) as usize;
-    let from = slot(slots, at, 12) as usize;
-    let len = slot(slots, at, 13) as usize;
-    let place = Place { at: from, len: len };
-    if !is_chunk_type(kind) {
-        return refusal::VALUE_NOT_ADMITTED;
-    }
-    if !header_fits(slots, at) {
-        return refusal::VALUE_NOT_ADMITTED;
-    }
-    if is_outside(src, place) {
-        return refusal::FIELD_CUT;
-    }
-    if len < data_length {
-        return refusal::FIELD_CUT;
+    if is_outside(src, Place { at: from, len }) || len < data_length {
+        return Err(Refusal::FieldCut);
     }
     if data_length < len {
-        return refusal::BYTES_LEFT;
+        return Err(Refusal::BytesLeft);
     }
-    if !has_entries(kind) {
-        return 0;
+    if has_entries(kind) {
+        let end = from + len;
+        let entries = slot(slots, 0, 2);
+        let records = slot(slots, 0, 3);
+        if let Err(fault) = entries_of(&src[from..end], 0, entries, records, 0) {
+            return Err(fault.refusal);
+        }
     }
-    let end = from + len;
-    let entries = slot(slots, at, 2);
-    let records = slot(slots, at, 3);
-    let stop = entries_of(&src[from..end], 0, entries, records, 0);
-    stop.refused
+    Ok(())
+}
+
+// The length of the chunk whose slots these are.
+pub fn measure_chunk(src: &[u8], slots: &[u64]) -> Result<usize, Refusal>
+    ensures { length_told result ≡ measured (write_field K.chunk src.now (unflat_field K.chunk slots.now)) }
+{
+    check_chunk(src, slots)?;
+    let len = slot(slots, 0, 13) as usize;
+    Ok(48 + len)
 }
 
 // The header, and the data behind it.
-pub fn put_chunk(out: &mut [u8], place: usize, src: &[u8], slots: &[u64], at: usize) -> usize
-    ensures { holds out.new result ≡ put_field K.chunk src.now (unflat_field K.chunk (drop at slots.now)) (holds out.old place) }
+pub fn put_chunk(out: &mut [u8], at: usize, src: &[u8], slots: &[u64]) -> usize
+    ensures { holds out.new result ≡ put_field K.chunk src.now (unflat_field K.chunk slots.now) (holds out.old at) }
 {
-    let from = slot(slots, at, 12);
-    let len = slot(slots, at, 13);
-    let next = put_header(out, place, slots, at);
+    let from = slot(slots, 0, 12);
+    let len = slot(slots, 0, 13);
+    let next = put_header(out, at, slots);
     wire::put_bytes(out, next, src, from as usize, len as usize)
 }
 
 // The header's numbers fit their fields. Those of eight bytes do by their type.
-fn header_fits(slots: &[u64], at: usize) -> bool
-    ensures { result ≡ fits_header (unflat_header (drop at slots.now)) }
+fn header_fits(slots: &[u64]) -> bool
+    ensures { result ≡ fits_header (unflat_header slots.now) }
 {
-    let magic = slot(slots, at, 0);
-    let kind = slot(slots, at, 1);
-    let entries = slot(slots, at, 2);
-    let records = slot(slots, at, 3);
-    let checksum = slot(slots, at, 7);
-    let data_length = slot(slots, at, 8);
-    let trailer_length = slot(slots, at, 9);
-    let bloom_size = slot(slots, at, 10);
-    let reserved = slot(slots, at, 11);
-    fits_signed(magic, 0x80)
-        & fits_signed(kind, 0x80)
-        & (entries < 0x1_0000)
-        & (records < 0x1_0000_0000)
-        & fits_signed(checksum, 0x8000_0000)
-        & (data_length < 0x1_0000_0000)
-        & (trailer_length < 0x1_0000_0000)
-        & (bloom_size < 0x100)
-        & (reserved < 0x100_0000)
+    let magic = slot(slots, 0, 0).signed();
+    let kind = slot(slots, 0, 1).signed();
+    let entries = slot(slots, 0, 2);
+    let records = slot(slots, 0, 3);
+    let checksum = slot(slots, 0, 7).signed();
+    let data_length = slot(slots, 0, 8);
+    let trailer_length = slot(slots, 0, 9);
+    let bloom_size = slot(slots, 0, 10);
+    let reserved = slot(slots, 0, 11);
+    i8::try_from(magic).is_ok()
+        & i8::try_from(kind).is_ok()
+        & is_number(Width::Two, entries)
+        & is_number(Width::Four, records)
+        & i32::try_from(checksum).is_ok()
+        & is_number(Width::Four, data_length)
+        & is_number(Width::Four, trailer_length)
+        & is_number(Width::One, bloom_size)
+        & is_number(Width::Three, reserved)
 }
 
-// A signed number's 64 bits fit a field that has so many numbers that are not negative.
-fn fits_signed(x: u64, half: u64) -> bool
-    ensures { result ≡ narrow_fits half x }
-{
-    if x < 0x8000_0000_0000_0000 {
-        return x < half;
-    }
-    0xffff_ffff_ffff_ffff - x < half
-}
-
-// Its bits in a field whose bits, all 1, are `ones`.
+// A signed number's 64 bits as those of a field whose bits, all 1, are `ones`.
+#[tactic(auto, unfolding(crate::specs::Narrow::narrow))]
 fn narrowed(x: u64, ones: u64) -> u64
     ensures { result ≡ narrow ones x }
 {
     if x < 0x8000_0000_0000_0000 {
-        return x;
+        x
+    } else {
+        ones.saturating_sub(u64::MAX - x)
     }
-    let below = 0xffff_ffff_ffff_ffff - x;
-    if ones <= below {
-        return 0;
-    }
-    ones - below
 }
 
 // The twelve numbers, one behind another.
-fn put_header(out: &mut [u8], place: usize, slots: &[u64], at: usize) -> usize
-    ensures { holds out.new result ≡ put_header (unflat_header (drop at slots.now)) (holds out.old place) }
+fn put_header(out: &mut [u8], at: usize, slots: &[u64]) -> usize
+    ensures { holds out.new result ≡ put_header (unflat_header slots.now) (holds out.old at) }
 {
-    let next = put_signed(out, place, Width::One, slot(slots, at, 0));
-    let next = put_signed(out, next, Width::One, slot(slots, at, 1));
-    let next = wire::put_number(out, next, Width::Two, slot(slots, at, 2));
-    let next = wire::put_number(out, next, Width::Four, slot(slots, at, 3));
-    let next = put_signed(out, next, Width::Eight, slot(slots, at, 4));
-    let next = wire::put_number(out, next, Width::Eight, slot(slots, at, 5));
-    let next = wire::put_number(out, next, Width::Eight, slot(slots, at, 6));
-    let next = put_signed(out, next, Width::Four, slot(slots, at, 7));
-    let next = wire::put_number(out, next, Width::Four, slot(slots, at, 8));
-    let next = wire::put_number(out, next, Width::Four, slot(slots, at, 9));
-    let next = wire::put_number(out, next, Width::One, slot(slots, at, 10));
-    wire::put_number(out, next, Width::Three, slot(slots, at, 11))
+    let next = put_signed(out, at, Width::One, slot(slots, 0, 0));
+    let next = put_signed(out, next, Width::One, slot(slots, 0, 1));
+    let next = wire::put_number(out, next, Width::Two, slot(slots, 0, 2));
+    let next = wire::put_number(out, next, Width::Four, slot(slots, 0, 3));
+    let next = put_signed(out, next, Width::Eight, slot(slots, 0, 4));
+    let next = wire::put_number(out, next, Width::Eight, slot(slots, 0, 5));
+    let next = wire::put_number(out, next, Width::Eight, slot(slots, 0, 6));
+    let next = put_signed(out, next, Width::Four, slot(slots, 0, 7));
+    let next = wire::put_number(out, next, Width::Four, slot(slots, 0, 8));
+    let next = wire::put_number(out, next, Width::Four, slot(slots, 0, 9));
+    let next = wire::put_number(out, next, Width::One, slot(slots, 0, 10));
+    wire::put_number(out, next, Width::Three, slot(slots, 0, 11))
 }
 
 // A signed number from its 64 bits.
+#[tactic(auto, using(crate::proofs::Narrowing::narrow_bits))]
 fn put_signed(out: &mut [u8], at: usize, width: Width, x: u64) -> usize
     ensures { holds out.new result ≡ put out.old at (digits (width_of width) (unsigned (width_of width) (signed 8 x))) }
 {

@@ -1,8 +1,8 @@
-// Fields written from their slots: each kind of field by a writer of its own.
+// Fields written from their slots: each is measured and put by its kind.
 #![tactic(auto)]
 
 mod chunk;
 mod writing;
 
-pub use chunk::{chunk_refusal, put_chunk};
-pub use writing::write_fields;
+pub use chunk::{check_chunk, put_chunk};
+pub use writing::{measure_fields, put_fields};

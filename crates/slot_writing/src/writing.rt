@@ -1,135 +1,140 @@
 // Fields written from their slots.
-ghost use Rattle.std.specs.Prelude.{true, false, [], ◌≡◌, ◌-◌, ◌^◌, drop};
-ghost use Rattle.protocol.specs.Fields as F;
-ghost use Rattle.protocol.specs.Kinds.{list_of, unsigned, specification, spec₀};
-ghost use Rattle.protocol.specs.Kinds as K;
-ghost use Rattle.protocol.specs.Layouts.{kind_said, row_from};
-ghost use Rattle.wire.specs.Integers.{width_of};
-ghost use Rattle.fields.specs.Writer.{state, step_field, step_row};
-ghost use Rattle.slots.specs.Unflat.{unflat_offset, unflat_row};
-ghost use Rattle.slot_writing.specs.Writing.{step_flat, step_kind};
+ghost use Rattle.std.specs.Prelude.{◌≡◌, drop};
+ghost use Rattle.wire.specs.Buffer.{holds};
+ghost use Rattle.protocol.specs.Layouts.{kind_of, row_from};
+ghost use Rattle.rules.specs.Writing.{write_field, write_row, write_offset};
+ghost use Rattle.fields.specs.Passes.{length_told, measured, measured_from, put_field, put_row, put_offset};
+ghost use Rattle.slots.specs.Unflat.{slots_of, unflat_field, unflat_offset, unflat_row};
 
-use crate::chunk::write_chunk_slots;
-use fields::{Writer, write_active, write_nullable, write_number, write_offset, write_string};
-use lists::write_list;
-use protocol::{FieldKind, Form, ListKind, OffsetSpecification, field_kind, refusal};
+use crate::chunk::{measure_chunk, put_chunk};
+use fields::{
+    measure_active, measure_nullable, measure_number, measure_offset, measure_string, put_nullable,
+    put_offset, put_string,
+};
+use lists::{measure_list, put_list};
+use protocol::{FieldKind, OffsetSpecification, Refusal};
 use slots::{list_of, nullable_of, offset_of, place_of, slot, slots_of};
 use wire::Width;
 
-// The fields of a layout, whose slots stand behind those of key and version.
-pub fn write_fields(w: Writer, src: &[u8], out: &mut [u8], slots: &[u64], fields: [u8; 6]) -> Writer
-    ensures { state result out.new ≡ step_row (row_from fields) src.now (unflat_row (row_from fields) (drop 2 slots.now)) (state w out.old) }
+// The length of a layout's fields, whose slots these are, with so many bytes in front of them.
+pub fn measure_fields(
+    start: usize,
+    src: &[u8],
+    slots: &[u64],
+    fields: &[FieldKind],
+) -> Result<usize, Refusal>
+    ensures { length_told result ≡ measured_from start (write_row (row_from fields.now) src.now (unflat_row (row_from fields.now) slots.now)) }
 {
-    let mut behind = w;
-    let mut at: usize = 2;
-    let mut i: usize = 0;
-    while i < 6 {
-        let kind = field_kind(fields[i]);
-        behind = write_field(behind, src, out, slots, at, kind);
-        at += slots_of(kind);
-        i += 1;
+    let mut size = start;
+    let mut rest = slots;
+    for &kind in fields {
+        size = size.saturating_add(measure_field(src, rest, kind)?);
+        rest = after(rest, kind);
     }
-    behind
+    Ok(size)
 }
 
-// The field whose slots start at a place.
-fn write_field(
-    w: Writer,
-    src: &[u8],
+// These fields, put at a place. Answers the place behind them.
+pub fn put_fields(
     out: &mut [u8],
+    start: usize,
+    src: &[u8],
     slots: &[u64],
-    at: usize,
-    kind: FieldKind,
-) -> Writer
-    ensures { state result out.new ≡ step_kind (kind_said kind) src.now (drop at slots.now) (state w out.old) }
+    fields: &[FieldKind],
+) -> usize
+    ensures { holds out.new result ≡ put_row (row_from fields.now) src.now (unflat_row (row_from fields.now) slots.now) (holds out.old start) }
 {
+    let mut at = start;
+    let mut rest = slots;
+    for &kind in fields {
+        at = put_field(out, at, src, rest, kind);
+        rest = after(rest, kind);
+    }
+    at
+}
+
+// The slots behind those of a field.
+fn after(slots: &[u64], kind: FieldKind) -> &[u64]
+    ensures { result.now ≡ drop (slots_of (kind_of kind)) slots.now }
+{
+    &slots[slots_of(kind).min(slots.len())..]
+}
+
+// The length of the field whose slots stand first.
+#[tactic(auto, using(crate::proofs::FlatFields::signed_measured))]
+fn measure_field(src: &[u8], slots: &[u64], kind: FieldKind) -> Result<usize, Refusal>
+    ensures { length_told result ≡ measured (write_field (kind_of kind) src.now (unflat_field (kind_of kind) slots.now)) }
+{
+    let first = slot(slots, 0, 0);
+    let second = slot(slots, 0, 1);
+    let third = slot(slots, 0, 2);
     match kind {
-        FieldKind::Nothing => w,
-        FieldKind::Number(width) => write_unsigned(w, out, width, slots, at),
-        FieldKind::Active => write_active(w, out, slot(slots, at, 0)),
-        // Its 64 bits, which every signed number of eight bytes fits.
-        FieldKind::Signed => write_unsigned(w, out, Width::Eight, slots, at),
-        FieldKind::String { form, nullable } => {
-            write_text(w, src, out, form, nullable, slots, at)
-        }
+        FieldKind::Number(width) => measure_number(width, first),
+        FieldKind::Active => measure_active(first),
+        // Every signed number of 64 bits fits eight bytes.
+        FieldKind::Signed => Ok(8),
+        FieldKind::String {
+            form,
+            nullable: true,
+        } => measure_nullable(src, form, nullable_of(first, second)),
+        FieldKind::String {
+            form,
+            nullable: false,
+        } => measure_string(src, form, place_of(first, second)),
         FieldKind::Specification { admits_none } => {
-            write_specification(w, out, admits_none, slots, at)
+            measure_specification(admits_none, first, second)
         }
-        FieldKind::List(list) => write_elements(w, src, out, list, slots, at),
-        FieldKind::Chunk => write_chunk_slots(w, src, out, slots, at),
+        FieldKind::List(list) => measure_list(src, list, list_of(first, second, third)),
+        FieldKind::Chunk => measure_chunk(src, slots),
     }
 }
 
-fn write_unsigned(w: Writer, out: &mut [u8], width: Width, slots: &[u64], at: usize) -> Writer
-    ensures { state result out.new ≡ step_flat (unsigned (width_of width) (256 ^ width_of width - 1)) [] (drop at slots.now) (state w out.old) }
+// This field, put at a place.
+#[tactic(auto, using(crate::proofs::FlatFields::signed_bits))]
+fn put_field(out: &mut [u8], at: usize, src: &[u8], slots: &[u64], kind: FieldKind) -> usize
+    ensures { holds out.new result ≡ put_field (kind_of kind) src.now (unflat_field (kind_of kind) slots.now) (holds out.old at) }
 {
-    write_number(w, out, width, slot(slots, at, 0))
-}
-
-// T, R and B, and those that may be null.
-fn write_text(
-    w: Writer,
-    src: &[u8],
-    out: &mut [u8],
-    form: Form,
-    nullable: bool,
-    slots: &[u64],
-    at: usize,
-) -> Writer
-    ensures { state result out.new ≡ step_flat (K.string form nullable) src.now (drop at slots.now) (state w out.old) }
-{
-    let from = slot(slots, at, 0);
-    let len = slot(slots, at, 1);
-    if nullable {
-        return write_nullable(w, src, out, form, nullable_of(from, len));
+    let first = slot(slots, 0, 0);
+    let second = slot(slots, 0, 1);
+    let third = slot(slots, 0, 2);
+    match kind {
+        FieldKind::Number(width) => wire::put_number(out, at, width, first),
+        FieldKind::Active => wire::put_number(out, at, Width::One, first),
+        FieldKind::Signed => wire::put_number(out, at, Width::Eight, first),
+        FieldKind::String {
+            form,
+            nullable: true,
+        } => put_nullable(out, at, src, form, nullable_of(first, second)),
+        FieldKind::String {
+            form,
+            nullable: false,
+        } => put_string(out, at, src, form, place_of(first, second)),
+        FieldKind::Specification { admits_none } => {
+            put_specification(out, at, admits_none, first, second)
+        }
+        FieldKind::List(_) => put_list(out, at, src, list_of(first, second, third)),
+        FieldKind::Chunk => put_chunk(out, at, src, slots),
     }
-    write_string(w, src, out, form, place_of(from, len))
-}
-
-fn write_elements(
-    w: Writer,
-    src: &[u8],
-    out: &mut [u8],
-    kind: ListKind,
-    slots: &[u64],
-    at: usize,
-) -> Writer
-    ensures { state result out.new ≡ step_flat (list_of kind) src.now (drop at slots.now) (state w out.old) }
-{
-    let list = list_of(slot(slots, at, 0), slot(slots, at, 1), slot(slots, at, 2));
-    write_list(w, src, out, kind, list)
-}
-
-// No specification has a type above 5. Where type 0 is not admitted, one of type 0 stands for it.
-fn write_specification(
-    w: Writer,
-    out: &mut [u8],
-    admits_none: bool,
-    slots: &[u64],
-    at: usize,
-) -> Writer
-    ensures { state result out.new ≡ step_flat (specification admits_none) [] (drop at slots.now) (state w out.old) }
-{
-    let kind = slot(slots, at, 0);
-    let value = slot(slots, at, 1);
-    if admits_none {
-        return write_specification_or_none(w, out, kind, value);
-    }
-    write_offset(w, out, false, offset_of(kind, value))
 }
 
 // A type above 5 gives 10.
-fn write_specification_or_none(w: Writer, out: &mut [u8], kind: u64, value: u64) -> Writer
-    ensures { state result out.new ≡ step_field spec₀ [] (F.offset (unflat_offset true kind value)) (state w out.old) }
+#[tactic(auto, using(crate::proofs::FlatFields::unknown_measured))]
+fn measure_specification(admits_none: bool, kind: u64, value: u64) -> Result<usize, Refusal>
+    ensures { length_told result ≡ measured (write_offset admits_none (unflat_offset admits_none kind value)) }
 {
-    if kind <= 5 {
-        return write_offset(w, out, true, offset_of(kind, value));
+    if 5 < kind {
+        return Err(Refusal::ValueNotAdmitted);
     }
-    if w.refused != 0 {
-        return w;
+    measure_offset(admits_none, offset_of(kind, value))
+}
+
+// No specification has a type above 5. Another one that is not admitted stands for it.
+#[tactic(auto, using(crate::proofs::FlatFields::unknown_put))]
+fn put_specification(out: &mut [u8], at: usize, admits_none: bool, kind: u64, value: u64) -> usize
+    ensures { holds out.new result ≡ put_offset (unflat_offset admits_none kind value) (holds out.old at) }
+{
+    if admits_none && 5 < kind {
+        return put_offset(out, at, OffsetSpecification::Offset(0));
     }
-    if w.putting {
-        return write_offset(w, out, true, OffsetSpecification::Offset(0));
-    }
-    w.refuse(refusal::VALUE_NOT_ADMITTED)
+    put_offset(out, at, offset_of(kind, value))
 }

@@ -1,5 +1,5 @@
 // What reading answers to one vector.
-ghost use Rattle.std.specs.Prelude.{◌≤◌, ◌≡◌, cond, length};
+ghost use Rattle.std.specs.Prelude.{◌≤◌, ◌≡◌, length};
 ghost use Rattle.rules.specs.Exactness.{frame_length};
 ghost use Rattle.rules.specs.Reading.{read_frame};
 ghost use Rattle.test_frames.specs.Answers.{used, needs, cuts_needing};
@@ -28,11 +28,7 @@ pub fn longer(name: &[u8], limit: u32, bytes: &[u8]) {
             test_text::word(b" longer");
             accepted(bytes, slots);
         }
-        FrameRead::Short { needed: _ } => {}
-        FrameRead::Refused {
-            number: _,
-            place: _,
-        } => {}
+        FrameRead::Short { .. } | FrameRead::Refused { .. } => {}
     }
 }
 
@@ -48,8 +44,8 @@ fn accepted(bytes: &[u8], slots: [u64; 24])
 }
 
 fn numbers(slots: &[u64]) {
-    for i in 0..used(slots) {
-        test_text::decimal(slots[i]);
+    for slot in &slots[..used(slots)] {
+        test_text::decimal(*slot);
     }
 }
 
@@ -58,12 +54,10 @@ fn used(slots: &[u64]) -> usize
     ensures value { result ≡ used slots.now }
     ensures upper_bound { result ≤ length slots.now }
 {
-    let mut n = slots.len();
-    while n > 0 {
-        if slots[n - 1] != 0 {
-            return n;
+    for n in (0..slots.len()).rev() {
+        if slots[n] != 0 {
+            return n + 1;
         }
-        n -= 1;
     }
     0
 }
@@ -123,17 +117,7 @@ fn short_of(limit: u32, cut: &[u8], n: u64) -> u64
     let mut slots = [0u64; 24];
     match frame_reading::read(cut, limit, &mut slots) {
         FrameRead::Frame => 0,
-        FrameRead::Short { needed } => one_if(needed == n),
-        FrameRead::Refused {
-            number: _,
-            place: _,
-        } => 0,
+        FrameRead::Short { needed } => u64::from(needed == n),
+        FrameRead::Refused { .. } => 0,
     }
-}
-
-fn one_if(t: bool) -> u64
-    ensures value { result ≡ cond t 1 0 }
-    ensures upper_bound { result ≤ 1 }
-{
-    if t { 1 } else { 0 }
 }

@@ -1,4 +1,4 @@
 -- Lemmas that belong to no one function.
-mod Numbers
+pub mod Numbers
 pub mod Octets
-mod Places
+pub mod Places

@@ -10,9 +10,6 @@ use lib.Seq.{paste-suc, length-take-le}
 use Rattle.io.specs.Counts.{IsPrefixLen}
 use Rattle.test_text.specs.Digits.{digit_of, octets}
 
-pub counts : (n : ℕ) (xs : List ℕ) → n ≤ length xs → IsPrefixLen n xs
-counts n xs h = (h, sym (length-take-le n xs h))
-
 pub length_octets : (s : List ℕ) → length (octets s) ≡ length s / 2
 unfolding octets
 length_octets [] = refl

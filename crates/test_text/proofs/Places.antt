@@ -1,6 +1,7 @@
 -- A search goes one byte further, or ends. Assumes nothing.
-use Rattle.std.specs.Prelude.{ℕ, suc, ◌+◌, ◌≤◌, ◌<◌, List, ◌∷◌, length, drop, get_or}
-use Rattle.std.proofs.Common.{◌≡◌, ap, ◌∙◌, arith}
+use Rattle.std.specs.Prelude.{ℕ, suc, ◌+◌, ◌≤◌, ◌<◌, List, ◌∷◌, length, drop, get_or, max, Bool, true, false, leb}
+use borrow.Author.Tests.{leb-true, leb-false}
+use Rattle.std.proofs.Common.{◌≡◌, refl, ap, ◌∙◌, arith}
 use Rattle.std.proofs.Math.ListN.{drop_of_length-le}
 use Rattle.std.proofs.Math.Seq.{drop-cons}
 use Rattle.std.proofs.lemmas.Bool.{eq-eqb, ne_eqb}
@@ -22,3 +23,12 @@ module _ (s : List ℕ) (at byte : ℕ) where
   pub none_left : length s ≤ at → index_of byte (drop at s) ≡ 0
   unfolding index_of
   none_left h = ap (index_of byte) (drop_of_length-le s {i = at} h)
+
+-- A search from a place on has passed all bytes.
+module _ (s : List ℕ) (from at byte : ℕ) (h : length s ≤ at) (e : from + index_of byte (drop from s) ≡ at + index_of byte (drop at s)) (i : from ≤ length s → at ≤ length s) where
+  pub all_passed : max (length s) from ≡ from + index_of byte (drop from s)
+  all_passed = by (leb from (length s)) refl
+    where
+      by : (t : Bool) → leb from (length s) ≡ t → max (length s) from ≡ from + index_of byte (drop from s)
+      by true q = let l = leb-true from (length s) q in let n = none_left s at byte h in omega (arith, l, n, e, i)
+      by false q = let l = leb-false from (length s) q in let n = none_left s from byte (omega (arith, l)) in omega (arith, l, n)

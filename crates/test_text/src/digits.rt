@@ -8,15 +8,11 @@ pub fn number(text: &[u8]) -> u64
     ensures { result ≡ number_in text.now }
 {
     let mut value: u64 = 0;
-    let mut at = 0;
-    while at < text.len() {
-        let b = text[at];
-        if is_digit(b) {
-            value = (value * 10 + digit(b) as u64) % 10_000_000_000;
-            at += 1;
-        } else {
-            return value;
+    for b in text {
+        if !is_digit(*b) {
+            break;
         }
+        value = (value * 10 + digit(*b) as u64) % 10_000_000_000;
     }
     value
 }
@@ -24,10 +20,7 @@ pub fn number(text: &[u8]) -> u64
 fn is_digit(b: u8) -> bool
     ensures { result ≡ is_digit b }
 {
-    if b < 0x30 {
-        return false;
-    }
-    b <= 0x39
+    matches!(b, b'0'..=b'9')
 }
 
 // Puts the bytes that pairs of hexadecimal digits give at the start of out, as many as there is room for, and answers how
@@ -37,17 +30,11 @@ pub fn unhex(text: &[u8], out: &mut [u8]) -> usize
     ensures out_after { out.new ≡ take result (octets text.now) ++ drop result out.old }
     ensures prefix_len { IsPrefixLen result out.new }
 {
-    let n = least(text.len() / 2, out.len());
+    let n = out.len().min(text.len() / 2);
     for i in 0..n {
         out[i] = digit(text[i * 2]) * 16 + digit(text[i * 2 + 1]);
     }
     n
-}
-
-fn least(a: usize, b: usize) -> usize
-    ensures { result ≡ min a b }
-{
-    if a < b { a } else { b }
 }
 
 // The value of a digit, decimal or hexadecimal in lower case.

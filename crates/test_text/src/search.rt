@@ -9,12 +9,10 @@ pub fn find(text: &[u8], from: usize, byte: u8) -> usize
     ensures lower_bound { from ≤ result }
     ensures upper_bound { from ≤ length text.now → result ≤ length text.now }
 {
-    let mut at = from;
-    while at < text.len() {
+    for at in from..text.len() {
         if text[at] == byte {
             return at;
         }
-        at += 1;
     }
-    at
+    text.len().max(from)
 }

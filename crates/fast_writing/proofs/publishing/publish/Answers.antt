@@ -1,27 +1,22 @@
--- The checks are those of the row, and its pieces are put one behind another.
-use native.Mathlib.Omega.{arith}
-use lib.ListN.{get_or}
-use borrow.Author.Tests.{not-false}
-use Rattle.wire.proofs.Within.{room}
-use Rattle.fields.proofs.Steps.{put_next}
+-- The checks are those of the row.
+use Rattle.std.proofs.Common.{◌≡◌, List, ℕ, sym, ap, ◌∙◌}
+use borrow.Author.Tests.{leb-true}
 use Rattle.protocol.specs.declared.kind.Element.TheVariants.{Message}
-use Rattle.fast_writing.proofs.Chain.{frame_put, part_next}
-use Rattle.fast_writing.proofs.Encoded.{plain_written, publish_row}
+use Rattle.rules.specs.Writing.{Encoding, write_encoded}
+use Rattle.fast_writing.proofs.Encoded.{not_err, list_inside, plain_checked, publish_row}
+use Rattle.fast_writing.proofs.Flattened.{same_writing}
 use Rattle.fast_writing.proofs.publishing.publish.Goals as goal
 
-pub overflow_add-size : goal.overflow_add-size
-overflow_add-size c =
-    let s = c.args.slots.now in
-    let w = plain_written _ Message c.args.src.now (get_or s 3 0) (get_or s 4 0) (get_or s 5 0) _ c.plain_list.ensures c.list_refusal-refused.ensures c.if-refused-ne0.false in
-    omega (arith, w.inside, c.well_formed.1.0.0)
-
-pub overflow_add-result : goal.overflow_add-result
-overflow_add-result c = omega (arith, (c.fits.ensures.0 (not-false _ c.if-not-fits.false-raw)).bound)
+pub put_listed-requires : goal.put_listed-requires
+put_listed-requires c =
+    let z = not_err _ (sym c.is_err-refused.ensures.value ∙ c.if-refused.false) in
+    list_inside _ c.args.src.now c.list_of-messages.result _ (plain_checked _ Message c.args.src.now c.list_of-messages.result c.plain_list.ensures _ c.check_list.ensures) z
 
 pub returns : goal.returns
 returns c =
     let s = c.args.slots.now in
     let src = c.args.src.now in
-    let w = plain_written _ Message src (get_or s 3 0) (get_or s 4 0) (get_or s 5 0) _ c.plain_list.ensures c.list_refusal-refused.ensures c.if-refused-ne0.false in
-    frame_put 0x0002 _ _ c.args.out.now _ _ _ _ (publish_row s src (room _ _ _ c.is_number.ensures c.if-not-is_number.false-raw) w) (c.fits.ensures.0 (not-false _ c.if-not-fits.false-raw))
-    (part_next src _ _ _ _ _ _ _ w.inside (put_next _ _ _ _ _ _ (put_next _ _ _ _ _ _ c.put_head-next.ensures c.put_number-next.ensures) c.put_number-next-2.ensures) c.put_bytes.ensures)
+    let z = not_err _ (sym c.is_err-refused.ensures.value ∙ c.if-refused.false) in
+    let id = leb-true _ _ (sym c.is_number.ensures ∙ c.if-not-is_number.false) in
+    let row = publish_row s src c.list_of-messages.result c.list_of-messages.ensures _ z id (plain_checked _ Message c.args.src.now c.list_of-messages.result c.plain_list.ensures _ c.check_list.ensures) in
+    same_writing _ _ c.args.out.now c.put_listed.new.out c.put_listed.result (ap (λ (e : Encoding). write_encoded 0x0002 1 e c.args.limit c.args.out.now) row) c.put_listed.ensures

@@ -5,16 +5,14 @@ use Rattle.test_frames.proofs.answer.used.Goals as goal
 
 pub returns-then-slots-n-ne0-clause-value : goal.returns-then-slots-n-ne0-clause-value
 returns-then-slots-n-ne0-clause-value c =
-    let l = c.loop-n in
-    sym (l.invariant.1 ∙ used_up_lem _ l.n (omega (arith, c.loop-n-test.true)) l.invariant.0 c.if-slots-n-ne0.true)
+    let i = c.loop-n.invariant in
+    let u = used_up_lem _ c.loop-n.n (omega (arith, c.loop-n-test.true)) i.0 c.if-slots-n-ne0.true in
+    omega (arith, i.1, u, c.loop-n-test.true)
 
 pub loop-n-preserved : goal.loop-n-preserved
 loop-n-preserved c =
-    let l = c.loop-n in
-    let i = l.invariant.0 in
-    (omega (arith, i), l.invariant.1 ∙ used_less _ l.n (omega (arith, c.loop-n-test.true)) i c.if-slots-n-ne0.false)
+    let i = c.loop-n.invariant in
+    (omega (arith, i.0), i.1 ∙ used_less _ c.loop-n.n (omega (arith, c.loop-n-test.true)) i.0 c.if-slots-n-ne0.false)
 
 pub returns-clause-value : goal.returns-clause-value
-returns-clause-value c =
-    let l = c.loop-n in
-    sym (l.invariant.1 ∙ used_none _ l.n (omega (arith, c.loop-n-test.false)))
+returns-clause-value c = let i = c.loop-n.invariant in sym (i.1 ∙ used_none _ c.loop-n.n (omega (arith, c.loop-n-test.false)))

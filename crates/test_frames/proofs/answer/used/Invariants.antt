@@ -5,6 +5,3 @@ use Rattle.test_frames.proofs.answer.used.Given as goal
 
 abbrev pub invariant-loop-n : goal.invariant-loop-n
 invariant-loop-n l = (l.n ≤ length l.slots) × (used l.slots ≡ used (take l.n l.slots))
-
-abbrev pub decreases-loop-n : goal.decreases-loop-n
-decreases-loop-n l = l.n
