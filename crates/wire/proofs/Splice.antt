@@ -7,6 +7,7 @@ use native.Mathlib.Numerals.{add-one}
 use native.Mathlib.Omega.{arith}
 use lib.ListN.{length, get_or, take, drop, set, length-append, length-drop, take-append-drop, get_or-append}
 use borrow.Author.Tests.{le-leb, lt-leb}
+use borrow.Rule.Slice.PartMut.{put_mid}
 use lib.Seq.{set_split, length-take-le, take-suc, drop-append-add, drop-drop, take_at, get_or-take, get_or-drop, get_or-append-add}
 use Rattle.wire.specs.Buffer.{splice, put, copied, holds, Written}
 
@@ -26,6 +27,11 @@ drop_past p q n m k = rw (← k) (drop-append-add p q m)
 pub splice_part : (s b : List ℕ) (at n : ℕ) → length b ≡ n → take at s ++ (b ++ drop n (drop at s)) ≡ splice s at b
 unfolding splice
 splice_part s b at n e = rw (drop-drop n at s, e)
+
+-- The part that holds a part of src, whose bounds the code has as an end less a start.
+pub splice_copied : (s t src : List ℕ) (at from len n m : ℕ) → n ≡ len → m ≡ len → from + len ≤ length src → t ≡ take m (drop from src) → put_mid at n s t ≡ splice s at (take len (drop from src))
+splice_copied s t src at from len n m e f h g =
+    rw (e, g, f) (splice_part s (take len (drop from src)) at len (length-take-le len (drop from src) (rw length-drop (omega arith))))
 
 -- The second need not end where s does.
 pub splice_behind : (s a b : List ℕ) (at : ℕ) → at ≤ length s → splice (splice s at a) (at + length a) b ≡ splice s at (a ++ b)

@@ -9,14 +9,17 @@ use lib.Arith.{digits_div, digits_mod}
 use lib.ListN.{length, get_or, take, drop, length-append, length-drop}
 use borrow.Author.Tests.{le-leb, lt-leb, leb-true, leb-false}
 use lib.Dec.{leb}
+use borrow.Rule.Slice.PartMut.{put_mid}
 use lib.Seq.{get_or-append-add, take-suc, take_all, get_or-drop, get_or-take, get_or_at}
+use Rattle.wire.specs.Buffer.{splice}
+use Rattle.wire.proofs.Splice.{splice_part}
 use Rattle.wire.specs.Integers.{Bytes, big_endian, digits, width_of, number_at, number_or_zero, Law}
 use Rattle.wire.specs.declared.integers.Width.{Width}
 use Rattle.wire.specs.declared.integers.Width.TheVariants.{One, Two, Three, Four, Eight}
 use Rattle.std.specs.Int.{byte_at, bytes_high_first}
 use Rattle.std.specs.Prelude.{Some, None}
 
-size : (n x : ℕ) → length (digits n x) ≡ n
+pub size : (n x : ℕ) → length (digits n x) ≡ n
 unfolding digits
 size zero x = refl
 size (suc n) x = simp length-append (rw (size n (x / 256)) (omega arith))
@@ -93,6 +96,11 @@ low_bytes n x h =
     let f : 8 - (8 - n) ≡ n = omega arith in
     let g : length (digits n x) ≤ n = rw (size n x) (omega arith) in
     rw (std_bytes 8 x, rw e at (last_digits (8 - n) n x), f) (take_all n (digits n x) g)
+
+-- The part that holds them, whose bounds the code has as an end less a start.
+pub splice_low : (s t b : List ℕ) (at n k v : ℕ) → k ≡ n → n ≤ 8 → b ≡ bytes_high_first 8 v → t ≡ take (8 - (8 - n)) (drop (8 - n) b) → put_mid at k s t ≡ splice s at (digits n v)
+splice_low s t b at n k v e h f g =
+    rw (e, g, f, low_bytes n v h) (splice_part s (digits n v) at n (size n v))
 
 -- A list of bytes with one more in front.
 pub bytes_cons : (b : ℕ) (s : List ℕ) → b < 256 → Bytes s → Bytes (b ∷ s)

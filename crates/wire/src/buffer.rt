@@ -6,6 +6,7 @@ use crate::room::has_room;
 
 // Puts len bytes of src, from a place of it on, at a place of out, and answers the place behind them. Where src has
 // not that many, or out no room for them, out stays as it is and the answer is the place itself.
+#[tactic(auto, using(crate::proofs::Splice::copied_cut, crate::proofs::Splice::copied_full, crate::proofs::Splice::copied_done))]
 pub fn put_bytes(out: &mut [u8], at: usize, src: &[u8], from: usize, len: usize) -> usize
     ensures { holds out.new result ≡ copied out.old at src.now from len }
 {
@@ -19,6 +20,7 @@ pub fn put_bytes(out: &mut [u8], at: usize, src: &[u8], from: usize, len: usize)
     at + len
 }
 
+#[tactic(auto, using(crate::proofs::Splice::splice_copied))]
 fn copy(out: &mut [u8], at: usize, src: &[u8], from: usize, len: usize)
     requires { (at + len ≤ length out.old) × (from + len ≤ length src.now) }
     ensures { out.new ≡ splice out.old at (take len (drop from src.now)) }

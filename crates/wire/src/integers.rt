@@ -55,7 +55,7 @@ pub fn number_or_zero(s: &[u8], at: usize, width: Width) -> u64
 
 // Puts the low bytes of v, as many as the width has, at a place of out, and answers the place behind them.
 // Where they have no room, out stays as it is and the answer is the place itself.
-#[tactic(auto, using(crate::proofs::Widths::at_most_eight))]
+#[tactic(auto, using(crate::proofs::Widths::at_most_eight, crate::proofs::Widths::size, crate::proofs::Splice::put_done, crate::proofs::Splice::put_not))]
 pub fn put_number(out: &mut [u8], at: usize, width: Width, v: u64) -> usize
     ensures { holds out.new result ≡ put out.old at (digits (width_of width) v) }
 {
@@ -92,6 +92,7 @@ fn number_there(s: &[u8], at: usize, width: Width) -> u64
 }
 
 // The n low bytes of v are the last ones, which become one store.
+#[tactic(auto, using(crate::proofs::Widths::splice_low))]
 fn put_big_endian(out: &mut [u8], at: usize, n: usize, v: u64)
     requires { (at + n ≤ length out.old) × (n ≤ 8) }
     ensures { out.new ≡ splice out.old at (digits n v) }
