@@ -6,7 +6,8 @@ use Prim.Native.Nat.{ℕ, zero, suc, ◌-◌, ◌<◌, ◌≤◌}
 use native.Mathlib.Omega.{arith}
 use lib.ListN.{length}
 use borrow.Author.Tests.{lt-ltb, le-ltb}
-use Rattle.std.specs.Prelude.{Some, None, Ok, Err}
+use Rattle.std.specs.Prelude.{Result, Some, None, Ok, Err}
+use Rattle.std.specs.Result.{result_ok}
 use Rattle.protocol.specs.Refusals.{bytes_left, number_of}
 use Rattle.protocol.proofs.Refused.{some_number}
 use Rattle.rules.specs.Outcome.{Outcome, got, refused, then, repeated}
@@ -55,6 +56,11 @@ module _ {A : Type 0} (o : Outcome A) where
 
   pub stop_ended : (e : ℕ) → Some e ≡ end_of o → told (Ok e) ≡ stop o
   stop_ended e i = ap stop (sym (ended e i).1)
+
+-- The end alone, of a reader's answer.
+pub told_end : {A : Type 0} (o : Outcome A) (r : Result ℕ Fault) → Numbered o → told r ≡ stop o → result_ok r ≡ end_of o
+told_end o (Ok next) n i = ap end_of (sym (read_to o next n i).1)
+told_end o (Err f) n i = ap end_of (sym (refused_at o f i))
 
 -- One thing after another: after the first is read, the second tells; and the first refusal is the answer.
 module _ {A B : Type 0} (o : Outcome A) (f : A → ℕ → Outcome B) where

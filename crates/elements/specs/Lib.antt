@@ -1,2 +1,0 @@
--- Where fields end.
-pub mod Ends
