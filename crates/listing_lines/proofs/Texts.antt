@@ -1,6 +1,6 @@
 -- The digits that are put are those of the number: the fewest that hold it are as many as the definition counts.
 -- Assumes nothing.
-use mathlib.Core.Path.{◌≡◌, refl, sym, ◌∙◌, ap}
+use mathlib.Core.Path.{◌≡◌, refl, sym, ◌∙◌, ap, subst}
 use mathlib.Core.Bool.{Bool, true, false, cond}
 use mathlib.Core.List.{List, [], ◌∷◌, ◌++◌, append_assoc}
 use Prim.Native.Nat.{ℕ, zero, suc, ◌+◌, ◌-◌, ◌*◌, ◌/◌, ◌^◌, ◌<◌, ◌≤◌}
@@ -14,6 +14,8 @@ use Rattle.io.specs.Digits.{last_digits, IsDigitCount}
 use Rattle.wire.proofs.Splice.{copied_there, put_fits, splice_none, splice_splice, length_splice}
 use Rattle.wire.specs.Buffer.{Holds, holds, put, copied, splice}
 use Rattle.listing_lines.specs.Text.{places, decimal, hex, puts, joined}
+use Rattle.listing_lines.specs.Printed.{Prints}
+use Rattle.listing_lines.specs.declared.text.Text.{Text}
 
 -- k more digits than one.
 places_of : (more n k : ℕ) → k ≤ more → n < 10 ^ suc k → (0 < k → 10 ^ k ≤ n) → places more n ≡ suc k
@@ -65,14 +67,26 @@ hex_digits w n k l f =
     rw e
 
 -- All of a word.
-pub put_whole : (o word : List ℕ) (at : ℕ) (h : Holds) → h ≡ copied o at word 0 (length word) → h ≡ put o at word
+pub put_whole : (o word : List ℕ) (at : ℕ) (h : Holds) → h ≡ copied o at word 0 (length word) → h ≡ puts o at (word ∷ [])
+unfolding puts
 put_whole o word at h f = f ∙ copied_there o at word 0 (length word) (omega arith) ∙ ap (put o at) (take-length word)
 
 -- Pieces behind others.
-pub pieces : (o : List ℕ) (at : ℕ) (ps qs : List (List ℕ)) (o₁ : List ℕ) (at₁ : ℕ) (h : Holds) → holds o₁ at₁ ≡ puts o at ps → h ≡ puts o₁ at₁ qs → h ≡ puts o at (ps ++ qs)
+pieces : (o : List ℕ) (at : ℕ) (ps qs : List (List ℕ)) (o₁ : List ℕ) (at₁ : ℕ) (h : Holds) → holds o₁ at₁ ≡ puts o at ps → h ≡ puts o₁ at₁ qs → h ≡ puts o at (ps ++ qs)
 unfolding puts
 pieces o at [] qs o₁ at₁ h e f = f ∙ ap (λ (x : Holds). puts x.bytes x.next qs) e
 pieces o at (p ∷ ps) qs o₁ at₁ h e f = pieces (put o at p).bytes (put o at p).next ps qs o₁ at₁ h e f
+
+pub same_piece : {p q : List ℕ} {a b : Text} → p ≡ q → Prints (p ∷ []) a b → Prints (q ∷ []) a b
+same_piece {a = a} {b = b} e f = subst (λ (p : List ℕ). Prints (p ∷ []) a b) e f
+
+-- Pieces, and others behind them.
+pub then : {ps qs : List (List ℕ)} {a b c : Text} → Prints ps a b → Prints qs b c → Prints (ps ++ qs) a c
+then e f = record { text = pieces _ _ _ _ _ _ _ e.text f.text; same_buffer = f.same_buffer ∙ e.same_buffer }
+
+pub prints_none : {t : Text} → Prints [] t t
+unfolding puts
+prints_none = record { text = refl; same_buffer = refl }
 
 pub joined_append : (ps qs : List (List ℕ)) → joined (ps ++ qs) ≡ joined ps ++ joined qs
 unfolding joined

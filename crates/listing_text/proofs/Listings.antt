@@ -24,6 +24,8 @@ use Rattle.captures.specs.declared.walker.Next.TheVariants.{Frame}
 use Rattle.captures.proofs.Followings.{Tells, tells, framed_there, slots_tell, window_known}
 use Rattle.listing_lines.specs.Text.{ascii, joined, puts}
 use Rattle.listing_lines.specs.Line.{frame_line, cut_line, refused_line, closing_line}
+use Rattle.listing_lines.specs.Printed.{Prints}
+use Rattle.listing_lines.specs.declared.text.Text.{Text}
 use Rattle.listing_lines.proofs.Texts.{joined_append, puts_fit, decimal_most, hex_length, joined_most}
 use Rattle.listing_text.specs.Listing.{limit, closes, lines_from, lines_of}
 use Rattle.listing_text.specs.Steps.{greatest, too_long, begun, halted, advanced, printed, moved, Steps, behind, Lists, Stopped, Stops}
@@ -180,11 +182,25 @@ not_long offset frames total = by (ltb greatest (offset + total)) refl
     by true q e = absurd (let o : ◌≡◌ {A = ℕ} 0 1 = cc in omega arith)
     by false q e = (ltb-false _ _ q, ltb-false _ _ e)
 
-pub steps_long : (p : Progress) (f : Fields Place) (total : ℕ) (t : Bool) (out : List ℕ) (r : Progress) → t ≡ too_long p.offset p.frames total → t ≡ true → r ≡ halted p p.written TooLong → Steps (framed f total) p out out r
-unfolding puts
-steps_long p f total t out r e i g =
-    let h : too_long p.offset p.frames total ≡ true = sym e ∙ i in
-    rw g (record { text = rw h; place = rw h })
+moved_written : (n : Next) (p : Progress) (at : ℕ) → (moved n p at).written ≡ at
+moved_written (framed f total) p at = by (too_long p.offset p.frames total)
+  where
+    by : (t : Bool) → (cond t (halted p at TooLong) (advanced p total at)).written ≡ at
+    by true = refl
+    by false = refl
+moved_written whole p at = refl
+moved_written (cut left needed) p at = refl
+moved_written (refused number) p at = refl
+moved_written more p at = refl
+
+-- A step, by what it puts behind a text that has as many bytes as are written.
+pub steps_by : (n : Next) (p : Progress) {old new : Text} (exit : List ℕ) (r : Progress) → Prints (printed n p) old new → old.len ≡ p.written → exit ≡ new.out.now → r ≡ moved n p new.len → Steps n p old.out.now exit r
+steps_by n p {old = old} {new = new} exit r e l x m =
+    let w : r.written ≡ new.len = ap (λ (q : Progress). q.written) m ∙ moved_written n p new.len in
+    record { text = let t = e.text in cc; place = m ∙ ap (moved n p) (sym w) }
+
+pub frame_steps : (f : Fields Place) (total key version : ℕ) (p : Progress) {old new : Text} (exit : List ℕ) (r : Progress) → f.key ≡ key → f.version ≡ version → Prints (cond (too_long p.offset p.frames total) [] (frame_line p.offset total key version)) old new → old.len ≡ p.written → exit ≡ new.out.now → r ≡ moved (framed f total) p new.len → Steps (framed f total) p old.out.now exit r
+frame_steps f total key version p {old = old} {new = new} exit r k v e = steps_by (framed f total) p {old = old} {new = new} exit r (rw (k, v) e)
 
 pub steps_more : (p : Progress) (out : List ℕ) (r : Progress) → r ≡ halted p p.written More → Steps more p out out r
 unfolding puts

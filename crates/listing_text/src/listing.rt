@@ -1,17 +1,14 @@
 // A capture listed through a window, into a lent buffer.
-ghost use Rattle.std.specs.Prelude.{◌≡◌, ◌+◌, ◌≤◌, length, drop};
-ghost use Rattle.wire.specs.Buffer.{holds};
-ghost use Rattle.protocol.specs.Fields.{Fields};
-ghost use Rattle.protocol.specs.declared.place.Place.{Place};
-ghost use Rattle.captures.specs.Following.{framed, following};
-ghost use Rattle.listing_lines.specs.Text.{puts};
-ghost use Rattle.listing_lines.specs.Line.{closing_line};
+ghost use Rattle.std.specs.Prelude.{◌≡◌, cond, [], ◌+◌, ◌≤◌, length, drop};
+ghost use Rattle.captures.specs.Following.{following};
+ghost use Rattle.listing_lines.specs.Line.{frame_line, closing_line};
+ghost use Rattle.listing_lines.specs.Printed.{Prints};
 ghost use Rattle.listing_text.specs.Listing.{limit};
-ghost use Rattle.listing_text.specs.Steps.{greatest, too_long, begun, halted, Steps, Lists, Stops};
-ghost use Rattle.listing_text.specs.declared.listing.State.TheVariants.{Done};
+ghost use Rattle.listing_text.specs.Steps.{greatest, too_long, begun, halted, advanced, Steps, Lists, Stops};
+ghost use Rattle.listing_text.specs.declared.listing.State.TheVariants.{Done, TooLong};
 
 use captures::{Next, next_frame};
-use listing_lines::{closing_line, cut_line, frame_line, refused_line};
+use listing_lines::Text;
 
 // The frame limit of a listing, and the bytes of the longest frame within it.
 const LIMIT: u32 = 65532;
@@ -51,51 +48,56 @@ impl Progress {
         requires { self.from ≤ length window.now }
         ensures { Steps (following (drop self.from window.now) ended limit) self out.old out.new result }
     {
-        let at = self.written;
+        let mut text = Text {
+            out,
+            len: self.written,
+        };
         let mut slots = [0u64; 24];
         match next_frame(&window[self.from..], ended, LIMIT, &mut slots) {
             Next::Frame { length } => self.frame_step(
-                out,
+                &mut text,
                 length,
                 slots[0] as u16,
                 slots[1] as u16,
             ),
-            Next::Whole => self.closed(out, at, b" whole\n"),
+            Next::Whole => self.closed(&mut text, b" whole\n"),
             Next::Cut { left, needed } => {
-                let behind = cut_line(out, at, self.offset, left, needed);
-                self.closed(out, behind, b" cut\n")
+                text.cut_line(self.offset, left, needed);
+                self.closed(&mut text, b" cut\n")
             }
             Next::Refused { number } => {
-                let behind = refused_line(out, at, self.offset, number);
-                self.closed(out, behind, b" refused\n")
+                text.refused_line(self.offset, number);
+                self.closed(&mut text, b" refused\n")
             }
-            Next::More => self.halted(at, State::More),
+            Next::More => self.halted(text.len, State::More),
         }
     }
 
-    fn frame_step(self, out: &mut [u8], total: u64, key: u16, version: u16) -> Self
+    fn frame_step(self, text: &mut Text, total: u64, key: u16, version: u16) -> Self
         requires { self.from + total ≤ greatest }
-        ensures { (f : Fields Place) → f.key ≡ key → f.version ≡ version → Steps (framed f total) self out.old out.new result }
+        ensures prints { Prints (cond (too_long self.offset self.frames total) [] (frame_line self.offset total key version)) text.old text.new }
+        ensures value { result ≡ cond (too_long self.offset self.frames total) (halted self text.new.len TooLong) (advanced self total text.new.len) }
     {
         if too_long(self.offset, self.frames, total) {
-            return self.halted(self.written, State::TooLong);
+            return self.halted(text.len, State::TooLong);
         }
+        text.frame_line(self.offset, total, key, version);
         Progress {
             from: self.from + total as usize,
             offset: self.offset + total,
             frames: self.frames + 1,
-            written: frame_line(out, self.written, self.offset, total, key, version),
+            written: text.len,
             state: State::Going,
         }
     }
 
-    // The closing line, at a place of out.
-    fn closed(self, out: &mut [u8], at: usize, ending: &[u8]) -> Self
-        ensures written_after { holds out.new result.written ≡ puts out.old at (closing_line self.frames ending.now) }
-        ensures value { result ≡ halted self result.written Done }
+    // The closing line.
+    fn closed(self, text: &mut Text, ending: &[u8]) -> Self
+        ensures prints { Prints (closing_line self.frames ending.now) text.old text.new }
+        ensures value { result ≡ halted self text.new.len Done }
     {
-        let written = closing_line(out, at, self.frames, ending);
-        self.halted(written, State::Done)
+        text.closing_line(self.frames, ending);
+        self.halted(text.len, State::Done)
     }
 
     // No further in the capture, with so much text.
