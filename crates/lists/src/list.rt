@@ -25,11 +25,10 @@ pub fn check_list(src: &[u8], kind: ListKind, list: Elements) -> Result<(), Refu
     ensures { number_in result ≡ refusal_of (write_field (list_of kind) src.now (F.elements list.count list.place)) }
 {
     check_place(src, list)?;
-    let at = list.place.at;
-    let len = list.place.len;
-    let end = at + len;
-    match elements_end(&src[at..end], 0, kind.element, list.count) {
-        Ok(last) => check_left(last, len),
+    let start = list.place.at;
+    let end = start + list.place.len;
+    match elements_end(&src[start..end], 0, kind.element, list.count) {
+        Ok(last) => check_left(last, list.place.len),
         Err(fault) => Err(fault.refusal),
     }
 }

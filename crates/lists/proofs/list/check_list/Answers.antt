@@ -1,9 +1,9 @@
--- By the count and the place, and then by the elements. The part that is lent is the bytes at the place.
-use Rattle.std.proofs.Common.{refl, arith, Ok, Err}
+-- By the count and the place, and then by the elements.
+use Rattle.std.proofs.Common.{refl, arith, Err}
 use Rattle.std.proofs.lemmas.Result.{err_from_is_err_and}
 use Rattle.protocol.proofs.Refused.{some_number}
 use Rattle.protocol.specs.Kinds.{element_row}
-use Rattle.byte_strings.specs.Stops.{told}
+use Rattle.byte_strings.specs.Stops.{stop_at, told}
 use Rattle.byte_strings.proofs.Parts.{lent}
 use Rattle.number_lists.proofs.Lists.{before_refused, before_passed, elements_refused, elements_used}
 use Rattle.lists.proofs.list.check_list.Goals as goal
@@ -14,25 +14,19 @@ returns-in_err-check_place c =
     rw (p.1, p.2) (before_refused c.args.kind.rule _ _ _ _ _ c.in_err-check_place.ensures (some_number _))
 
 pub overflow_add-end : goal.overflow_add-end
-overflow_add-end c =
-    let a = c.args in
-    omega (arith, (before_passed a.kind.rule (element_row a.kind.element) a.src.now a.list.count a.list.place 0 c.in_ok-check_place.ensures refl).0)
+overflow_add-end c = omega (arith, (before_passed c.args.kind.rule (element_row c.args.kind.element) c.args.src.now c.args.list.count c.args.list.place 0 c.in_ok-check_place.ensures refl).0)
 
 pub slice_bounds-elements_end-end : goal.slice_bounds-elements_end-end
-slice_bounds-elements_end-end c =
-    let a = c.args in
-    omega (arith, (before_passed a.kind.rule (element_row a.kind.element) a.src.now a.list.count a.list.place 0 c.in_ok-check_place.ensures refl).0)
+slice_bounds-elements_end-end c = omega (arith, (before_passed c.args.kind.rule (element_row c.args.kind.element) c.args.src.now c.args.list.count c.args.list.place 0 c.in_ok-check_place.ensures refl).0)
 
 pub returns-in-Ok : goal.returns-in-Ok
 returns-in-Ok c =
-    let a = c.args in
-    let l = a.list in
-    let read = rw (lent a.src.now l.place.at l.place.len) at c.in-Ok.ensures in
-    elements_used a.kind.rule (element_row a.kind.element) a.src.now l.count l.place 0 c.in_ok-check_place.ensures refl (told (Ok c.in-Ok.last)) read _ refl c.check_left.ensures
+    let l = c.args.list in
+    let read = rw (lent c.args.src.now l.place.at l.place.len) at c.in-Ok.ensures in
+    elements_used c.args.kind.rule _ _ _ _ 0 c.in_ok-check_place.ensures refl (stop_at c.in-Ok.last 0) read _ refl c.check_left.ensures
 
 pub returns-in-Err : goal.returns-in-Err
 returns-in-Err c =
-    let a = c.args in
-    let l = a.list in
-    let read = rw (lent a.src.now l.place.at l.place.len) at c.in-Err.ensures in
-    elements_refused a.kind.rule (element_row a.kind.element) a.src.now l.count l.place 0 c.in_ok-check_place.ensures refl (told (Err c.in-Err.fault)) read (some_number c.in-Err.fault.refusal)
+    let l = c.args.list in
+    let read = rw (lent c.args.src.now l.place.at l.place.len) at c.in-Err.ensures in
+    elements_refused c.args.kind.rule _ _ _ _ 0 c.in_ok-check_place.ensures refl (told (Err c.in-Err.fault)) read (some_number c.in-Err.fault.refusal)
