@@ -9,49 +9,51 @@ use lib.Dec.{eqb, ltb, lit≤}
 use lib.ListN.{length}
 use borrow.Author.Tests.{eq-eqb, ne_eqb, eqb-true, eqb-false, ltb-true, ltb-false}
 use Rattle.wire.specs.Integers.{Bytes, big_endian, number_or_zero}
-use Rattle.wire.specs.Signed.{signed, unsigned}
+use Rattle.wire.specs.Signed.{signed}
 use Rattle.wire.proofs.TwosComplement.{twos_complement}
 use Rattle.wire.proofs.Widths.{integers, or_zero_lem}
 use Rattle.protocol.specs.Fields.{Field, further, over_places, place}
 use Rattle.protocol.specs.Fields as F
 use Rattle.protocol.specs.Kinds.{Kind, Row, i64, length_width, list, specification, string}
 use Rattle.protocol.specs.Kinds as K
+use Rattle.std.specs.Prelude.{Ok, Err}
 use Rattle.protocol.specs.Refusals.{value_not_admitted}
 use Rattle.protocol.specs.declared.kind.Form.{Form}
 use Rattle.protocol.specs.declared.kind.Form.TheVariants.{Text, Reference, Bytes as Raw}
 use Rattle.protocol.specs.declared.kind.ListRule.{ListRule}
 use Rattle.protocol.specs.declared.offset.OffsetSpecification.TheVariants.{Offset, Timestamp}
 use Rattle.protocol.specs.declared.place.Place.{Place}
-use Rattle.rules.specs.Outcome.{Outcome, got, refused, then, mapped, refuse_if}
+use Rattle.rules.specs.Outcome.{Outcome, got, then, mapped, refuse_if}
 use Rattle.rules.specs.Reading.{header_at, read_field, read_offset, read_signed, read_specification, read_string, read_timestamp, read_typed, read_unsigned}
 use Rattle.rules.specs.Writing.{write_string}
 use Rattle.rules.proofs.Bounds.{numbered_field}
 use Rattle.rules.proofs.Gives.{Gives, after_number, check, weaker}
 use Rattle.rules.proofs.Numbers.{number_cases, whole_width}
-use Rattle.byte_strings.specs.Stops.{stop, refusal_of}
-use Rattle.byte_strings.specs.declared.stop.Stop.{Stop}
-use Rattle.byte_strings.proofs.Stops.{passed, stopped}
+use Rattle.byte_strings.specs.Stops.{Stop, stop, told, refusal_of}
+use Rattle.byte_strings.specs.declared.fault.Fault.{Fault}
+use Rattle.byte_strings.proofs.Stops.{read_to, refused_at}
 use Rattle.byte_strings.proofs.StringFields.{admitted, length_cut, string_found, string_null, string_refused}
 use Rattle.number_lists.proofs.Lists.{Listed, listed}
 use Rattle.chunks.proofs.Chunks.{Whole}
 use Rattle.slots.specs.Flat.{bits, flat_field, flat_header, flat_octets, flat_offset, flat_place, null_length, overlaid}
 use Rattle.slot_reading.specs.Reading.{field_slots}
 
-module _ (kind : Kind) (s : List ℕ) (at : ℕ) (e : Stop) (i : e ≡ stop (read_field kind s at)) where
+module _ (kind : Kind) (s : List ℕ) (at : ℕ) where
   -- A refusal leaves the slots as they are.
-  pub slots_stay : (base : ℕ) (old : List ℕ) (slot : ℕ) → (e.refused ≡ 0 → ⊥) → old ≡ field_slots base kind (read_field kind s at) old slot
-  slots_stay base old slot z = rw (stopped (read_field kind s at) e i z)
+  pub slots_stay : (base : ℕ) (old : List ℕ) (slot : ℕ) (fault : Fault) → told (Err fault) ≡ stop (read_field kind s at) → old ≡ field_slots base kind (read_field kind s at) old slot
+  slots_stay base old slot fault i = rw (refused_at (read_field kind s at) fault i)
 
-  -- What was found, and where it ends.
-  pub found : (P : Field Place → ℕ → Type 0) → e.refused ≡ 0 → Gives P (read_field kind s at) → (f : Field Place) × (read_field kind s at ≡ got f e.at) × P f e.at
-  found P z g =
-      let r = passed (read_field kind s at) e (numbered_field kind s at) i z in
-      (r.0, r.1, rw r.1 at g)
+  module _ (last : ℕ) (i : told (Ok last) ≡ stop (read_field kind s at)) where
+    -- What was found, and where it ends.
+    pub found : (P : Field Place → ℕ → Type 0) → Gives P (read_field kind s at) → (f : Field Place) × (read_field kind s at ≡ got f last) × P f last
+    found P g =
+        let r = read_to (read_field kind s at) last (numbered_field kind s at) i in
+        (r.0, r.1, rw r.1 at g)
 
-  pub slots_put : (base : ℕ) (old new values : List ℕ) (slot : ℕ) → e.refused ≡ 0 → new ≡ overlaid old slot values → Gives (λ f next. next ≡ e.at → values ≡ flat_field kind (over_places (further base) f)) (read_field kind s at) → new ≡ field_slots base kind (read_field kind s at) old slot
-  slots_put base old new values slot z p g =
-      let r = found (λ f next. next ≡ e.at → values ≡ flat_field kind (over_places (further base) f)) z g in
-      rw r.1 (p ∙ ap (overlaid old slot) (r.2 refl))
+    pub slots_put : (base : ℕ) (old new values : List ℕ) (slot : ℕ) → new ≡ overlaid old slot values → Gives (λ f next. next ≡ last → values ≡ flat_field kind (over_places (further base) f)) (read_field kind s at) → new ≡ field_slots base kind (read_field kind s at) old slot
+    slots_put base old new values slot p g =
+        let r = found (λ f next. next ≡ last → values ≡ flat_field kind (over_places (further base) f)) g in
+        rw r.1 (p ∙ ap (overlaid old slot) (r.2 refl))
 
 module _ (s : List ℕ) (at base : ℕ) where
   -- ---- Numbers
@@ -145,6 +147,10 @@ module _ (s : List ℕ) (at base : ℕ) where
             (record { after = omega arith; within = a.inside; field = ap (λ (n : ℕ). F.string (some (place body n))) (sym k) })
         by there false i = rw (string_refused form s at there length_bits refl nullable b (not_null nullable) refusal refl (eqb-false refusal 0 i)) tt
 
+    -- It ends after its length, within s.
+    pub string_ends : (last : ℕ) → told (Ok last) ≡ stop (read_field (string form nullable) s at) → Bytes s → (length_bits ≡ null_bits → ⊥) → (body ≤ last) × (last ≤ length s)
+    string_ends last i b e = let f = (found (string form nullable) s at last i Body (body_found b e)).2 in (f.after, f.within)
+
     pub body_slots : (last : ℕ) → base + length s < 0x1_0000_0000_0000_0000 → Bytes s → (length_bits ≡ null_bits → ⊥) → Gives (Told ((base + body) ∷ (last - body) ∷ []) last) (read_field (string form nullable) s at)
     body_slots last fits b e =
         weaker Body (Told ((base + body) ∷ (last - body) ∷ []) last) (read_field (string form nullable) s at)
@@ -201,21 +207,12 @@ module _ (s : List ℕ) (at base : ℕ) where
           let n = suc (suc (suc (suc (suc (suc k))))) in
           rw (other n 0 (omega arith), other n 1 (omega arith), other n 2 (omega arith), other n 3 (omega arith), other n 4 (omega arith), other n 5 (omega arith)) tt
 
-  module _ (admits_none : Bool) (b : Bytes s) (v last : ℕ) (e : v ≡ number_or_zero 2 s at) where
-    abbrev OffsetSlots : ℕ → Type 0
-    OffsetSlots x = Gives (λ f next. next ≡ last → v ∷ x ∷ [] ≡ flat_field (specification admits_none) (over_places (further base) f)) (read_field (specification admits_none) s at)
-
-    offset_put : (x : ℕ) → v ∷ x ∷ [] ≡ offset_values last → OffsetSlots x
-    offset_put x j =
-        weaker Typed (λ f next. next ≡ last → v ∷ x ∷ [] ≡ flat_field (specification admits_none) (over_places (further base) f)) (read_field (specification admits_none) s at)
-        (λ f next h i. j ∙ ap offset_values (sym i) ∙ h.values)
-        (typed admits_none b)
-
-    pub offset_alone : last ≡ at + 2 → OffsetSlots 0
-    offset_alone l = offset_put 0 (rw (e, l, eq-eqb (at + 2) (at + 2) refl))
-
-    pub offset_more : (x : ℕ) → (last ≡ at + 2 → ⊥) → x ≡ number_or_zero 8 s (at + 2) → OffsetSlots x
-    offset_more x l i = offset_put x (rw (e, ne_eqb last (at + 2) l, i))
+  -- Its slots, by where it ends.
+  pub offset_slots : (admits_none : Bool) (v x last : ℕ) → Bytes s → v ≡ number_or_zero 2 s at → x ≡ cond (eqb last (at + 2)) 0 (number_or_zero 8 s (at + 2)) → Gives (λ f next. next ≡ last → v ∷ x ∷ [] ≡ flat_field (specification admits_none) (over_places (further base) f)) (read_field (specification admits_none) s at)
+  offset_slots admits_none v x last b e i =
+      weaker Typed (λ f next. next ≡ last → v ∷ x ∷ [] ≡ flat_field (specification admits_none) (over_places (further base) f)) (read_field (specification admits_none) s at)
+      (λ f next h j. rw (e, i) (ap offset_values (sym j) ∙ h.values))
+      (typed admits_none b)
 
   -- ---- Lists
 
@@ -224,6 +221,9 @@ module _ (s : List ℕ) (at base : ℕ) where
       weaker (Listed rule row s at) (λ f next. next ≡ last → v ∷ (base + (at + 4)) ∷ (last - (at + 4)) ∷ [] ≡ flat_field (list rule row) (over_places (further base) f)) (read_field (list rule row) s at)
       (λ f next h i. rw (h.field, e, i))
       (listed rule row s at)
+
+  pub list_ends : (rule : ListRule) (row : Row) (last : ℕ) → told (Ok last) ≡ stop (read_field (list rule row) s at) → (at + 4 ≤ last) × (last ≤ length s)
+  list_ends rule row last i = let f = (found (list rule row) s at last i (Listed rule row s at) (listed rule row s at)).2 in (f.after, f.within)
 
   -- ---- Chunks
 

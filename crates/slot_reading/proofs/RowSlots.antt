@@ -1,19 +1,21 @@
 -- A row whose fields are put one after another has its slots where the first one's are. A content and an element are rows that are
 -- put into slots which are 0. Assumes nothing.
 use mathlib.Core.Path.{◌≡◌, refl, ◌∙◌, sym, ap}
-use mathlib.Core.Bool.{true, false}
+use mathlib.Core.Bool.{Bool, true, false}
 use mathlib.Core.List.{List, [], ◌∷◌, map}
-use mathlib.Core.Option.{Option, none, some}
-use Prim.Native.Nat.{ℕ, ◌+◌, ◌<◌, ◌≤◌}
+use Prim.Native.Nat.{ℕ, ◌+◌, ◌-◌, ◌^◌, ◌<◌, ◌≤◌}
+use Rattle.std.specs.Prelude.{min}
 use native.Mathlib.Omega.{arith}
-use lib.Dec.{lit≤}
+use lib.Dec.{leb, lit≤}
 use lib.ListN.{length, length-append, drop, get_or}
-use lib.Seq.{drop-length, take_all}
-use borrow.Author.Tests.{lt-ltb, le-ltb}
+use lib.Seq.{drop-cons, drop-length, take_all}
+use native.Mathlib.Numerals.{add-one}
+use borrow.Author.Tests.{leb-true, leb-false, lt-ltb, le-ltb}
 use Rattle.protocol.specs.Fields.{Field, bytes_at, further, outside, over_places}
 use Rattle.protocol.specs.Kinds.{Kind, Row, end, ◌·◌, element_row}
-use Rattle.protocol.specs.Layouts.{front, kind_of, kind_said, row_by}
+use Rattle.protocol.specs.Layouts.{kind_of, row_from}
 use Rattle.protocol.specs.Refusals.{bytes_left, field_cut}
+use Rattle.std.specs.Prelude.{Ok, Err}
 use Rattle.protocol.specs.declared.kind.Element.{Element}
 use Rattle.protocol.specs.declared.kind.Element.TheVariants.{Message, FilteredMessage, PublishingId, PublishingError, Property, Name, CommandVersions, Broker, StreamMetadata, Statistic, BrokerReference}
 use Rattle.protocol.specs.declared.kind.FieldKind.{FieldKind}
@@ -21,45 +23,44 @@ use Rattle.protocol.specs.declared.place.Place.{Place}
 use Rattle.rules.specs.Outcome.{Outcome, got, refused, then}
 use Rattle.rules.specs.Reading.{read_content, read_field, read_row}
 use Rattle.rules.proofs.Bounds.{numbered_field, numbered_row}
-use Rattle.byte_strings.specs.Stops.{stop, stop_at}
-use Rattle.byte_strings.specs.declared.stop.Stop.{Stop}
-use Rattle.byte_strings.proofs.Stops.{passed, stopped}
-use Rattle.elements.specs.Ends.{field_end}
-use Rattle.elements.proofs.Rows.{next_field}
+use Rattle.byte_strings.specs.Stops.{Stop, stop, stop_at, told}
+use Rattle.byte_strings.specs.declared.fault.Fault.{Fault}
+use Rattle.byte_strings.proofs.Stops.{read_to, refused_at}
 use Rattle.slots.specs.Flat.{flat_element, flat_field, flat_row, overlaid, padded}
-use Rattle.slots.specs.Unflat.{slots_for, slots_in}
-use Rattle.slots.proofs.Overlaid.{overlaid_length, overlaid_none, overlaid_padded, overlaid_twice, padded_length}
+use Rattle.slots.specs.Unflat.{slots_in, slots_of}
+use Rattle.slots.proofs.Overlaid.{none_fits, overlaid_length, overlaid_none, overlaid_padded, overlaid_twice, padded_length}
 use Rattle.slots.proofs.Padding.{field_slots_lem}
-use Rattle.slot_reading.specs.Reading.{Filled, content_slots, element_in, element_slots, field_slots, kind_slots}
+use Rattle.slot_reading.specs.Reading.{Filled, content_slots, element_in, element_slots, field_slots}
 
--- A field of a kind that was read and put.
-abbrev pub FieldPut : ℕ → List ℕ → ℕ → List ℕ → ℕ → Stop → List ℕ → FieldKind → Type 0
-FieldPut base s at old slot r new kind = (r ≡ field_end (kind_said kind) s at) × (new ≡ kind_slots base (kind_said kind) s at old slot)
-
-pub of_kind : (base : ℕ) (s : List ℕ) (at : ℕ) (old : List ℕ) (slot : ℕ) (r : Stop) (new : List ℕ) (k l : FieldKind) → k ≡ l → FieldPut base s at old slot r new l → FieldPut base s at old slot r new k
-of_kind base s at old slot r new k l e p = rw e p
-
--- The slots stay as many.
-pub kind_length : (base : ℕ) (o : Option Kind) (s : List ℕ) (at : ℕ) (old : List ℕ) (slot : ℕ) → length (kind_slots base o s at old slot) ≡ length old
-kind_length base none s at old slot = refl
-kind_length base (some k) s at old slot = by (read_field k s at)
-  where
-    by : (o : Outcome (Field Place)) → length (field_slots base k o old slot) ≡ length old
-    by (got f next) = overlaid_length old slot (flat_field k (over_places (further base) f))
-    by (refused n p) = refl
+-- ---- A row, field by field
 
 module _ (base : ℕ) (s : List ℕ) where
   -- What is left of a row, once its slots are put, fills those of the row.
   abbrev pub Continues : Row → ℕ → List ℕ → ℕ → Row → ℕ → List ℕ → ℕ → Type 0
   Continues rest at now slot row start old first = (new : List ℕ) → Filled base rest (read_row rest s at) now slot new → Filled base row (read_row row s start) old first new
 
-  module _ (at : ℕ) (now : List ℕ) (slot : ℕ) (e : Stop) (new : List ℕ) (n : ℕ) (z : e.refused ≡ 0) where
-    pub field_turns : (o : Option Kind) (row : Row) → e ≡ field_end o s at → new ≡ kind_slots base o s at now slot → n ≡ slots_for o → Continues row e.at new (slot + n) (front o row) at now slot
+  -- Behind the last slot one place is as another.
+  fills_behind : (row : Row) (o : Outcome (List (Field Place))) (now : List ℕ) (a b : ℕ) (new : List ℕ) → length now ≤ a → length now ≤ b → Filled base row o now a new → Filled base row o now b new
+  fills_behind row (got fs last) now a b new h k f = f ∙ none_fits now a (flat_row row (map (over_places (further base)) fs)) h ∙ sym (none_fits now b (flat_row row (map (over_places (further base)) fs)) k)
+  fills_behind row (refused n p) now a b new h k f = tt
+
+  module _ (kind : Kind) (row : Row) (at next : ℕ) (i : told (Ok next) ≡ stop (read_field kind s at)) where
+    field : (f : Field Place) × (read_field kind s at ≡ got f next)
+    field = read_to (read_field kind s at) next (numbered_field kind s at) i
+
+    -- One field more does not change where a row stops.
+    pub row_stops : stop (read_row row s next) ≡ stop (read_row (kind · row) s at)
     unfolding read_row
-    field_turns none row i j m more f = let k : slot + 0 ≡ slot = omega arith in rw (ap (λ (x : Stop). x.at) i, j, m, k) at f
-    field_turns (some kind) row i j m more f =
-        let r = passed (read_field kind s at) e (numbered_field kind s at) i z in
-        rw r.1 (by r.0 (read_row row s e.at) (j ∙ ap (λ (o : Outcome (Field Place)). field_slots base kind o now slot) r.1) f)
+    row_stops = rw field.1 (by (read_row row s next))
+      where
+        by : (o : Outcome (List (Field Place))) → stop o ≡ stop (then o (λ fs last. got (field.0 ∷ fs) last))
+        by (got fs last) = refl
+        by (refused n p) = refl
+
+    pub row_fills : (now new : List ℕ) (slot n : ℕ) → new ≡ field_slots base kind (read_field kind s at) now slot → n ≡ slots_of kind → Continues row next new (slot + n) (kind · row) at now slot
+    unfolding read_row
+    row_fills now new slot n j m more f =
+        rw field.1 (by field.0 (read_row row s next) (j ∙ ap (λ (o : Outcome (Field Place)). field_slots base kind o now slot) field.1) f)
       where
         by : (g : Field Place) (o : Outcome (List (Field Place))) → new ≡ overlaid now slot (flat_field kind (over_places (further base) g)) → Filled base row o new (slot + n) more → Filled base (kind · row) (then o (λ gs last. got (g ∷ gs) last)) now slot more
         by g (got gs last) put f =
@@ -68,46 +69,79 @@ module _ (base : ℕ) (s : List ℕ) where
             f ∙ rw (put, long) (overlaid_twice now first (flat_row row (map (over_places (further base)) gs)) slot)
         by g (refused p q) put f = tt
 
--- A loop over the numbers of a row.
-module _ (base : ℕ) (fields s : List ℕ) (i at : ℕ) (now : List ℕ) (slot : ℕ) where
+  -- A field that is refused is its row's refusal.
+  pub row_refused : (kind : Kind) (row : Row) (at : ℕ) (fault : Fault) → told (Err fault) ≡ stop (read_field kind s at) → told (Err fault) ≡ stop (read_row (kind · row) s at)
+  unfolding read_row
+  row_refused kind row at fault i = rw (refused_at (read_field kind s at) fault i)
+
+-- A loop over the kinds of a row.
+module _ (base : ℕ) (s : List ℕ) (fields : List FieldKind) (i at : ℕ) where
   abbrev rest : ℕ → Row
-  rest j = row_by kind_of (drop j fields)
+  rest j = row_from (drop j fields)
 
-  pub fills_next : (e : Stop) (new : List ℕ) (n : ℕ) → e.refused ≡ 0 → i < length fields → e ≡ field_end (kind_of (get_or fields i 0)) s at → new ≡ kind_slots base (kind_of (get_or fields i 0)) s at now slot → n ≡ slots_for (kind_of (get_or fields i 0)) → Continues base s (rest (i + 1)) e.at new (slot + n) (rest i) at now slot
-  fills_next e new n z l f p m = rw (next_field kind_of fields s i l) (field_turns base s at now slot e new n z (kind_of (get_or fields i 0)) (rest (i + 1)) f p m)
+  module _ (d : FieldKind) (l : i < length fields) where
+    next_row : rest i ≡ kind_of (get_or fields i d) · rest (i + 1)
+    unfolding row_from
+    next_row = rw (add-one, drop-cons fields i d l)
 
-  -- After the last field the slots are filled.
-  pub filled_all : i ≡ length fields → Filled base (rest i) (read_row (rest i) s at) now slot now
-  unfolding row_by read_row
-  filled_all l = rw (l, drop-length fields) (sym (overlaid_none now slot))
+    pub one_refused : (fault : Fault) → told (Err fault) ≡ stop (read_field (kind_of (get_or fields i d)) s at) → told (Err fault) ≡ stop (read_row (rest i) s at)
+    one_refused fault e = rw next_row (row_refused base s (kind_of (get_or fields i d)) (rest (i + 1)) at fault e)
+
+    module _ (next : ℕ) (e : told (Ok next) ≡ stop (read_field (kind_of (get_or fields i d)) s at)) where
+      pub one_stops : stop (read_row (rest (i + 1)) s next) ≡ stop (read_row (rest i) s at)
+      one_stops = rw next_row (row_stops base s (kind_of (get_or fields i d)) (rest (i + 1)) at next e)
+
+      -- The slots after the field are those of what is left, or lie behind the last one.
+      pub one_fills : (now new : List ℕ) (slot n after : ℕ) → new ≡ field_slots base (kind_of (get_or fields i d)) (read_field (kind_of (get_or fields i d)) s at) now slot → n ≡ slots_of (kind_of (get_or fields i d)) → after ≡ min (slot + n) (2 ^ 64 - 1) → length new < 0x1_0000_0000_0000_0000 → Continues base s (rest (i + 1)) next new after (rest i) at now slot
+      one_fills now new slot n after p m q short more f =
+          rw next_row (row_fills base s (kind_of (get_or fields i d)) (rest (i + 1)) at next e now new slot n p m more (by (leb (slot + n) 0xffff_ffff_ffff_ffff) refl))
+        where
+          by : (t : Bool) → leb (slot + n) 0xffff_ffff_ffff_ffff ≡ t → Filled base (rest (i + 1)) (read_row (rest (i + 1)) s next) new (slot + n) more
+          by true h = let k : after ≡ slot + n = omega (arith, q, leb-true _ _ h) in rw (← k) f
+          by false h = let g = leb-false _ _ h in fills_behind base s (rest (i + 1)) (read_row (rest (i + 1)) s next) new after (slot + n) more (omega (arith, q, g, short)) (omega (arith, g, short)) f
+
+  module _ (l : i ≡ length fields) where
+    pub none_stops : told (Ok at) ≡ stop (read_row (rest i) s at)
+    unfolding row_from read_row
+    none_stops = rw (l, drop-length fields)
+
+    pub none_fills : (now : List ℕ) (slot : ℕ) → Filled base (rest i) (read_row (rest i) s at) now slot now
+    unfolding row_from read_row
+    none_fills now slot = rw (l, drop-length fields) (sym (overlaid_none now slot))
 
 -- Of a row that is refused nothing is said.
-pub refused_filled : (base : ℕ) (row : Row) (s : List ℕ) (start : ℕ) (e : Stop) (old : List ℕ) (first : ℕ) (new : List ℕ) → e ≡ stop (read_row row s start) → (e.refused ≡ 0 → ⊥) → Filled base row (read_row row s start) old first new
-refused_filled base row s start e old first new i z = rw (stopped (read_row row s start) e i z) tt
+pub refused_filled : (base : ℕ) (row : Row) (s : List ℕ) (start : ℕ) (fault : Fault) (old : List ℕ) (first : ℕ) (new : List ℕ) → told (Err fault) ≡ stop (read_row row s start) → Filled base row (read_row row s start) old first new
+refused_filled base row s start fault old first new i = rw (refused_at (read_row row s start) fault i) tt
+
+-- The slots stay as many.
+pub field_length : (base : ℕ) (kind : Kind) (o : Outcome (Field Place)) (old : List ℕ) (slot : ℕ) → length (field_slots base kind o old slot) ≡ length old
+field_length base kind (got f next) old slot = overlaid_length old slot (flat_field kind (over_places (further base) f))
+field_length base kind (refused n p) old slot = refl
 
 -- ---- A content
 
-module _ (key version : ℕ) (row : Row) (s : List ℕ) (e : Stop) (i : e ≡ stop (read_row row s 0)) where
-  abbrev pub Content : List ℕ → Stop → List ℕ → Type 0
-  Content old r new = (r ≡ stop (read_content row s)) × (new ≡ content_slots key version row (read_content row s) old)
+module _ (key version : ℕ) (row : Row) (s : List ℕ) where
+  -- An answer, and the slots before and after.
+  abbrev pub Content : Stop → List ℕ → List ℕ → Type 0
+  Content e old new = (e ≡ stop (read_content row s)) × (new ≡ content_slots key version row (read_content row s) old)
 
-  pub content_refused : (old : List ℕ) → (e.refused ≡ 0 → ⊥) → Content old e old
+  pub content_refused : (old : List ℕ) (fault : Fault) → told (Err fault) ≡ stop (read_row row s 0) → Content (told (Err fault)) old old
   unfolding read_content
-  content_refused old z = rw (stopped (read_row row s 0) e i z) (refl, refl)
+  content_refused old fault i = rw (refused_at (read_row row s 0) fault i) (refl, refl)
 
-  module _ (z : e.refused ≡ 0) where
-    fields : (fs : List (Field Place)) × (read_row row s 0 ≡ got fs e.at)
-    fields = passed (read_row row s 0) e (numbered_row row s 0) i z
+  module _ (last : ℕ) (i : told (Ok last) ≡ stop (read_row row s 0)) where
+    fields : (fs : List (Field Place)) × (read_row row s 0 ≡ got fs last)
+    fields = read_to (read_row row s 0) last (numbered_row row s 0) i
 
-    pub content_left : (old : List ℕ) (r : Stop) → e.at < length s → r ≡ stop_at e.at bytes_left → Content old r old
+    pub content_left : (old : List ℕ) → last < length s → Content (stop_at last bytes_left) old old
     unfolding read_content
-    content_left old r l j = rw (fields.1, lt-ltb _ _ l) (j, refl)
+    content_left old l = rw (fields.1, lt-ltb _ _ l) (refl, refl)
 
-    pub content_read : (old new : List ℕ) → length s ≤ e.at → Filled 8 row (read_row row s 0) (padded 24 (key ∷ version ∷ [])) 2 new → Content old e new
+    pub content_read : (old new : List ℕ) → length s ≤ last → Filled 8 row (read_row row s 0) (padded 24 (key ∷ version ∷ [])) 2 new → Content (told (Ok last)) old new
     unfolding read_content
     content_read old new l f =
-        let filled : Filled 8 row (got fields.0 e.at) (padded 24 (key ∷ version ∷ [])) 2 new = rw fields.1 at f in
-        rw (fields.1, le-ltb _ _ l) (i ∙ ap stop fields.1, filled ∙ overlaid_padded 24 (key ∷ version ∷ []) (flat_row row (map (over_places (further 8)) fields.0)) (lit≤ tt))
+        let filled : Filled 8 row (got fields.0 last) (padded 24 (key ∷ version ∷ [])) 2 new = rw fields.1 at f in
+        rw (fields.1, le-ltb _ _ l) (refl, filled ∙ overlaid_padded 24 (key ∷ version ∷ []) (flat_row row (map (over_places (further 8)) fields.0)) (lit≤ tt))
 
 -- ---- An element
 
@@ -135,23 +169,24 @@ module _ (kind : Element) (s : List ℕ) (p : Place) (at : ℕ) where
   abbrev row : Row
   row = element_row kind
 
-  abbrev pub ElementRead : List ℕ → Stop → List ℕ → Type 0
-  ElementRead old r new = (r ≡ stop (element_in row s p at)) × (new ≡ element_slots row (element_in row s p at) old)
+  -- An answer, and the slots before and after.
+  abbrev pub ElementRead : Stop → List ℕ → List ℕ → Type 0
+  ElementRead e old new = (e ≡ stop (element_in row s p at)) × (new ≡ element_slots row (element_in row s p at) old)
 
-  pub element_outside : (old : List ℕ) (r : Stop) → outside p s ≡ true → r ≡ stop_at at field_cut → ElementRead old r old
+  pub element_outside : (old : List ℕ) → outside p s ≡ true → ElementRead (stop_at at field_cut) old old
   unfolding element_in
-  element_outside old r o j = rw o (j, refl)
+  element_outside old o = rw o (refl, refl)
 
-  module _ (o : outside p s ≡ false) (e : Stop) (i : e ≡ stop (read_row row (bytes_at s p) at)) where
-    pub element_refused : (old : List ℕ) → (e.refused ≡ 0 → ⊥) → ElementRead old e old
+  module _ (o : outside p s ≡ false) where
+    pub element_refused : (old : List ℕ) (fault : Fault) → told (Err fault) ≡ stop (read_row row (bytes_at s p) at) → ElementRead (told (Err fault)) old old
     unfolding element_in
-    element_refused old z = rw (o, stopped (read_row row (bytes_at s p) at) e i z) (refl, refl)
+    element_refused old fault i = rw (o, refused_at (read_row row (bytes_at s p) at) fault i) (refl, refl)
 
-    pub element_read : (old new : List ℕ) → e.refused ≡ 0 → Filled p.at row (read_row row (bytes_at s p) at) (padded 8 []) 0 new → ElementRead old e new
+    pub element_read : (last : ℕ) → told (Ok last) ≡ stop (read_row row (bytes_at s p) at) → (old new : List ℕ) → Filled p.at row (read_row row (bytes_at s p) at) (padded 8 []) 0 new → ElementRead (told (Ok last)) old new
     unfolding element_in flat_element
-    element_read old new z f =
-        let r = passed (read_row row (bytes_at s p) at) e (numbered_row row (bytes_at s p) at) i z in
+    element_read last i old new f =
+        let r = read_to (read_row row (bytes_at s p) at) last (numbered_row row (bytes_at s p) at) i in
         let fs = map (over_places (further p.at)) r.0 in
-        let filled : Filled p.at row (got r.0 e.at) (padded 8 []) 0 new = rw r.1 at f in
+        let filled : Filled p.at row (got r.0 last) (padded 8 []) 0 new = rw r.1 at f in
         let fits : length (flat_row row fs) ≤ 8 = omega (arith, row_slots row fs, element_fits kind) in
-        rw (o, r.1) (i ∙ ap stop r.1, filled ∙ overlaid_padded 8 [] (flat_row row fs) (lit≤ tt) ∙ take_all 8 (padded 8 (flat_row row fs)) (omega (arith, padded_length 8 (flat_row row fs) fits)))
+        rw (o, r.1) (refl, filled ∙ overlaid_padded 8 [] (flat_row row fs) (lit≤ tt) ∙ take_all 8 (padded 8 (flat_row row fs)) (omega (arith, padded_length 8 (flat_row row fs) fits)))

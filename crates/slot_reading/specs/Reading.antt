@@ -1,23 +1,17 @@
 -- A reader that puts what it reads into slots. The places in what is read count from `base` bytes before the part.
 use Rattle.std.specs.Prelude.{◌≡◌, List, ◌∷◌, map, ℕ, take}
-use Rattle.std.proofs.Math.Option.{Option, none, some}
 use Rattle.protocol.specs.Fields.{Field, bytes_at, outside, over_places, further}
 use Rattle.protocol.specs.Kinds.{Kind, Row}
 use Rattle.protocol.specs.Refusals.{field_cut}
 use Rattle.protocol.specs.declared.place.Place.{Place}
 use Rattle.rules.specs.Outcome.{Outcome, got, refused, mapped, refuse_if}
-use Rattle.rules.specs.Reading.{read_field, read_row}
+use Rattle.rules.specs.Reading.{read_row}
 use Rattle.slots.specs.Flat.{flat_field, flat_row, flat_element, overlaid, padded}
 
 -- The slots after a field was read: its own from a place on, as far as there are slots. A refusal leaves them as they were.
 abbrev pub field_slots : ℕ → Kind → Outcome (Field Place) → List ℕ → ℕ → List ℕ
 field_slots base kind (got f next) old slot = overlaid old slot (flat_field kind (over_places (further base) f))
 field_slots base kind (refused n at) old slot = old
-
--- What is no field has none.
-abbrev pub kind_slots : ℕ → Option Kind → List ℕ → ℕ → List ℕ → ℕ → List ℕ
-kind_slots base none s at old slot = old
-kind_slots base (some kind) s at old slot = field_slots base kind (read_field kind s at) old slot
 
 -- The slots after the fields of a row were read. Of a refused row nothing is said.
 abbrev pub Filled : ℕ → Row → Outcome (List (Field Place)) → List ℕ → ℕ → List ℕ → Type 0
