@@ -5,9 +5,10 @@ use Prim.Native.Nat.{ℕ}
 use Rattle.protocol.specs.Decision.{Decision, layout, decide}
 use Rattle.rules.specs.Reading.{read_layout, read_decided}
 use Rattle.fast_reading.specs.Answer.{Answers}
-use Rattle.fast_reading.specs.declared.reading.Fast.{Fast}
+use Rattle.std.specs.Prelude.{Option, Result}
+use Rattle.byte_strings.specs.declared.fault.Fault.{Fault}
 
-module _ (s old new : List ℕ) (r : Fast) (key version : ℕ) where
+module _ (s old new : List ℕ) (r : Option (Result Unit Fault)) (key version : ℕ) where
   pub by_key : (k v : ℕ) → decide k v ≡ layout k v → key ≡ k → version ≡ v → Answers (read_layout k v s) old r new → Answers (read_decided (decide key version) s) old r new
   unfolding read_decided
   by_key k v l i j a =

@@ -2,3 +2,4 @@
 mod Rows
 mod Chunks
 mod Keys
+mod Delivers

@@ -14,15 +14,18 @@ use Rattle.protocol.specs.Kinds.{Kind, Row, end, ◌·◌, unsigned, u8, list, p
 use Rattle.protocol.specs.Table.{row_of}
 use Rattle.protocol.specs.declared.offset.OffsetSpecification.TheVariants.{Offset}
 use Rattle.protocol.specs.declared.place.Place.{Place}
-use Rattle.rules.specs.Outcome.{got, refused}
+use Rattle.rules.specs.Outcome.{Outcome, got, refused}
 use Rattle.rules.specs.Reading.{read_typed, read_offset, read_specification, read_field, read_row, read_content, read_layout}
 use Rattle.rules.proofs.Numbers.{number_there, whole_width}
-use Rattle.byte_strings.specs.Stops.{stop}
-use Rattle.byte_strings.specs.declared.stop.Stop.{Stop}
+use Rattle.byte_strings.specs.Stops.{stop, stop_at, told}
+use Rattle.byte_strings.specs.Stops.{Stop}
 use Rattle.number_lists.proofs.Lists.{list_whole}
+use Rattle.std.specs.Prelude.{Result, Some, Ok, Err}
+use Rattle.std.specs.Result.{result_ok}
+use Rattle.protocol.specs.Refusals.{number_of}
 use Rattle.slots.specs.Flat.{flat_row, flat_frame, padded}
 use Rattle.fast_reading.specs.Answer.{Answers}
-use Rattle.fast_reading.specs.declared.reading.Fast.TheVariants.{Frame, Refused}
+use Rattle.byte_strings.specs.declared.fault.Fault.{Fault}
 
 -- ---- A row that is read
 
@@ -35,7 +38,7 @@ unfolding read_row
 row_read done = refl
 row_read (link p q) = rw (p, row_read q)
 
-pub reads : {s : List ℕ} {row : Row} {last : ℕ} {fs : List (Field Place)} (k v : ℕ) (old new : List ℕ) → row_of k v ≡ row → Got s row 0 fs last → last ≡ length s → new ≡ padded 24 (k ∷ v ∷ flat_row row (map (over_places (further 8)) fs)) → Answers (read_layout k v s) old Frame new
+pub reads : {s : List ℕ} {row : Row} {last : ℕ} {fs : List (Field Place)} (k v : ℕ) (old new : List ℕ) → row_of k v ≡ row → Got s row 0 fs last → last ≡ length s → new ≡ padded 24 (k ∷ v ∷ flat_row row (map (over_places (further 8)) fs)) → Answers (read_layout k v s) old (Some (Ok tt)) new
 unfolding read_layout read_content flat_frame
 reads {s} {row} {last} {fs} k v old new i g h j =
     (record { key = k; version = v; content = map (over_places (further 8)) fs }, (rw (i, row_read g, le-ltb last (length s) (omega arith)), j ∙ ap (λ (r : Row). padded 24 (k ∷ v ∷ flat_row r (map (over_places (further 8)) fs))) (sym i)))
@@ -51,9 +54,9 @@ unfolding read_row
 row_refused (here i) = rw i
 row_refused (later i q) = rw (i, row_refused q)
 
-pub refuses : {s : List ℕ} {row : Row} {n p : ℕ} (k v : ℕ) (old : List ℕ) → row_of k v ≡ row → Refuses s row 0 n p → Answers (read_layout k v s) old (Refused n p) old
+pub refuses : {s : List ℕ} {row : Row} (fault : Fault) (k v : ℕ) (old : List ℕ) → row_of k v ≡ row → Refuses s row 0 (number_of fault.refusal) fault.at → Answers (read_layout k v s) old (Some (Err fault)) old
 unfolding read_layout read_content
-refuses k v old i g = (rw (i, row_refused g), refl)
+refuses fault k v old i g = (rw (i, row_refused g), refl)
 
 -- ---- Numbers
 
@@ -75,6 +78,11 @@ offset_read s at h e =
 
 -- ---- A list that ends with the content
 
+-- What `ok` leaves of an answer is the end.
+pub ended_at : {A : Type 0} (o : Outcome A) (r : Result ℕ Fault) (last : ℕ) → Some last ≡ result_ok r → told r ≡ stop o → stop_at last 0 ≡ stop o
+ended_at o (Ok n) last e i = let j : last ≡ n = cc in rw j i
+ended_at o (Err fault) last e i = cc
+
 module _ (row : Row) (s : List ℕ) (e : Stop) (z : e.refused ≡ 0) (y : e.at ≡ length s) where
   pub list_read : (at from count : ℕ) → e ≡ stop (read_field (list plain row) s at) → at + 4 ≡ from → count ≡ big_endian 4 s at → read_field (list plain row) s at ≡ got (elements count (place from (length s - from))) (length s)
   list_read at from count i f c =
@@ -82,7 +90,7 @@ module _ (row : Row) (s : List ℕ) (e : Stop) (z : e.refused ≡ 0) (y : e.at �
       rw (← f, ← y, c ∙ sym (or_zero_lem 4 s at w.0)) w.1
 
   -- A byte and such a list.
-  pub byte_and_list : (k : ℕ) (old : List ℕ) (a n : ℕ) → row_of k 1 ≡ u8 · list plain row · end → Bytes s → 5 ≤ length s → a ≡ big_endian 1 s 0 → n ≡ big_endian 4 s 1 → e ≡ stop (read_field (list plain row) s 1) → Answers (read_layout k 1 s) old Frame (padded 24 (k ∷ 1 ∷ a ∷ n ∷ 13 ∷ (length s - 5) ∷ []))
+  pub byte_and_list : (k : ℕ) (old : List ℕ) (a n : ℕ) → row_of k 1 ≡ u8 · list plain row · end → Bytes s → 5 ≤ length s → a ≡ big_endian 1 s 0 → n ≡ big_endian 4 s 1 → e ≡ stop (read_field (list plain row) s 1) → Answers (read_layout k 1 s) old (Some (Ok tt)) (padded 24 (k ∷ 1 ∷ a ∷ n ∷ 13 ∷ (length s - 5) ∷ []))
   byte_and_list k old a n i b l f g h =
       reads k 1 old _ i
       (link (unsigned_read s b 1 0xff 0 1 refl refl (omega arith))

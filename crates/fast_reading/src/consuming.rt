@@ -5,10 +5,9 @@ ghost use Rattle.rules.specs.Reading.{read_decided, read_layout};
 ghost use Rattle.fast_reading.specs.Answer.{Answers, ReadsAs};
 ghost use Rattle.fast_reading.specs.Chunk.{chunk_at};
 
-use crate::filled::{first_eight, first_six};
+use crate::filled::filled;
 use crate::number;
-use crate::reading::Fast;
-use byte_strings::after_text;
+use byte_strings::{Fault, after_text};
 use chunks::chunk_end;
 use lists::list_end;
 use protocol::{Element, plain_list};
@@ -16,52 +15,46 @@ use slots::{widened8, widened32};
 use wire::Width;
 
 // u8 u16
-pub fn credit(s: &[u8], slots: &mut [u64; 24]) -> bool
+pub fn credit(s: &[u8], slots: &mut [u64; 24]) -> Option<()>
     ensures { ReadsAs (read_layout 0x0009 1 s.now) slots.old result slots.new }
 {
     if s.len() != 3 {
-        return false;
+        return None;
     }
     let subscription_id = number(s, 0, Width::One);
     let credit = number(s, 1, Width::Two);
-    *slots = first_six(0x0009, 1, subscription_id, credit, 0, 0);
-    true
+    *slots = filled([0x0009, 1, subscription_id, credit]);
+    Some(())
 }
 
 // c u8 T spec u16 [T T]; every offset specification but type 4 is left to the general reader.
-pub fn subscribe(s: &[u8], slots: &mut [u64; 24]) -> bool
+pub fn subscribe(s: &[u8], slots: &mut [u64; 24]) -> Option<()>
     ensures { ReadsAs (read_layout 0x0007 1 s.now) slots.old result slots.new }
 {
     if s.len() < 5 {
-        return false;
+        return None;
     }
     let correlation_id = number(s, 0, Width::Four);
     let subscription_id = number(s, 4, Width::One);
-    let offset = after_text(s, 5);
-    if offset == 0 {
-        return false;
-    }
+    let offset = after_text(s, 5)?;
     if s.len() - offset < 16 {
-        return false;
+        return None;
     }
     let kind = number(s, offset, Width::Two);
     if kind != 4 {
-        return false;
+        return None;
     }
     let value = number(s, offset + 2, Width::Eight);
     let credit = number(s, offset + 10, Width::Two);
     let count = number(s, offset + 12, Width::Four);
     let properties = offset + 16;
-    let end = list_end(s, offset + 12, plain_list(Element::Property));
-    if end.refused != 0 {
-        return false;
-    }
-    if end.at != s.len() {
-        return false;
+    let end = list_end(s, offset + 12, plain_list(Element::Property)).ok()?;
+    if end != s.len() {
+        return None;
     }
     let stream_len = offset as u64 - 7;
     let len = (s.len() - properties) as u64;
-    let mut filled = first_eight(
+    *slots = filled([
         0x0007,
         1,
         correlation_id,
@@ -70,33 +63,25 @@ pub fn subscribe(s: &[u8], slots: &mut [u64; 24]) -> bool
         stream_len,
         4,
         value,
-    );
-    filled[8] = credit;
-    filled[9] = count;
-    filled[10] = properties as u64 + 8;
-    filled[11] = len;
-    *slots = filled;
-    true
+        credit,
+        count,
+        properties as u64 + 8,
+        len,
+    ]);
+    Some(())
 }
 
 // u8 chunk, and u8 u64 chunk in version 2. The chunk's refusal is the content's. The room of
 // the chunk's header is tested here, for `chunk_end` and for every number; a content without it is left to the general reader.
-pub fn deliver(s: &[u8], version: u64, slots: &mut [u64; 24]) -> Fast
+pub fn deliver(s: &[u8], version: u64, slots: &mut [u64; 24]) -> Option<Result<(), Fault>>
     ensures { Answers (read_decided (decide 0x0008 version) s.now) slots.old result slots.new }
 {
-    let at = chunk_place(version);
-    if at == 0 {
-        return Fast::Unread;
-    }
+    let at = chunk_place(version)?;
     if s.len() < at + 48 {
-        return Fast::Unread;
+        return None;
     }
-    let end = chunk_end(s, at);
-    if end.refused != 0 {
-        return Fast::Refused {
-            number: end.refused,
-            at: end.at,
-        };
+    if let Err(fault) = chunk_end(s, at) {
+        return Some(Err(fault));
     }
     let subscription_id = number(s, 0, Width::One);
     let magic = widened8(number(s, at, Width::One) as u8);
@@ -138,7 +123,7 @@ pub fn deliver(s: &[u8], version: u64, slots: &mut [u64; 24]) -> Fast
             0,
             0,
         ];
-        return Fast::Frame;
+        return Some(Ok(()));
     }
     let committed_chunk_id = number(s, 1, Width::Eight);
     *slots = [
@@ -167,19 +152,16 @@ pub fn deliver(s: &[u8], version: u64, slots: &mut [u64; 24]) -> Fast
         0,
         0,
     ];
-    Fast::Frame
+    Some(Ok(()))
 }
 
-// Where the chunk of a Deliver begins: after 1 byte in version 1, after 9 in version 2; 0 for any other version. A product takes
+// Where the chunk of a Deliver begins: after 1 byte in version 1, after 9 in version 2; no other version has one. A product takes
 // less time than two cases.
-fn chunk_place(version: u64) -> usize
+fn chunk_place(version: u64) -> Option<usize>
     ensures { result ≡ chunk_at version }
 {
-    if version == 0 {
-        return 0;
+    if version == 0 || 2 < version {
+        return None;
     }
-    if 2 < version {
-        return 0;
-    }
-    (8 * version - 7) as usize
+    Some((8 * version - 7) as usize)
 }

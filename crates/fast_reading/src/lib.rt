@@ -12,7 +12,7 @@ mod filled;
 mod publishing;
 mod reading;
 
-pub use reading::{Fast, read};
+pub use reading::read;
 
 // A number of a width that is there. The compiler inlines the reading of four bytes, but not that of eight.
 fn number(s: &[u8], at: usize, width: Width) -> u64

@@ -7,36 +7,25 @@ ghost use Rattle.fast_reading.specs.Answer.{Answers, ReadsAs};
 use crate::connection::{heartbeat, open};
 use crate::consuming::{credit, deliver, subscribe};
 use crate::publishing::{declare_publisher, publish, publish_confirm};
+use byte_strings::Fault;
 
-// What became of a content. Only a frame that is read changes the slots.
-#[derive(Clone, Copy)]
-pub enum Fast {
-    // The slots are the frame's.
-    Frame,
-    // Refused, with the place of the field at fault in the content.
-    Refused { number: u8, at: usize },
-    // Left to the general reader.
-    Unread,
-}
-
-// A content by its key and version. Of Deliver both versions are read, of the others version 1.
-pub fn read(s: &[u8], key: u64, version: u64, slots: &mut [u64; 24]) -> Fast
+// A content by its key and version. Of Deliver both versions are read, of the others version 1. `None`: left to the general reader.
+// The place of a refusal counts from the content's first byte. Only a frame that is read changes the slots.
+pub fn read(s: &[u8], key: u64, version: u64, slots: &mut [u64; 24]) -> Option<Result<(), Fault>>
     ensures { Answers (read_decided (decide key version) s.now) slots.old result slots.new }
 {
     if key == 0x0008 {
         return deliver(s, version, slots);
     }
     if version != 1 {
-        return Fast::Unread;
+        return None;
     }
-    if others(s, key, slots) {
-        return Fast::Frame;
-    }
-    Fast::Unread
+    others(s, key, slots)?;
+    Some(Ok(()))
 }
 
 // Version 1 of the others: whether the frame was read. A refusal is left to the general reader.
-fn others(s: &[u8], key: u64, slots: &mut [u64; 24]) -> bool
+fn others(s: &[u8], key: u64, slots: &mut [u64; 24]) -> Option<()>
     ensures { ReadsAs (read_decided (decide key 1) s.now) slots.old result slots.new }
 {
     match key {
@@ -47,6 +36,6 @@ fn others(s: &[u8], key: u64, slots: &mut [u64; 24]) -> bool
         0x0009 => credit(s, slots),
         0x0015 => open(s, slots),
         0x0017 => heartbeat(s, slots),
-        _ => false,
+        _ => None,
     }
 }
