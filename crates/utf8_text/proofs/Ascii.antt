@@ -29,7 +29,7 @@ is_ascii s i h k = sym (one s i h) ∙ lt-ltb (get_or s i 0) 0x80 (omega arith)
 pub is_not : (s : List ℕ) (i : ℕ) → i < length s → 0x7f < get_or s i 0 → ascii (take 1 (drop i s)) ≡ false
 is_not s i h k = sym (one s i h) ∙ le-ltb (get_or s i 0) 0x80 (omega arith)
 
-pub parts : (s : List ℕ) (i n m : ℕ) → (ascii (take n (drop i s)) && ascii (take m (drop (i + n) s))) ≡ ascii (take (n + m) (drop i s))
+parts : (s : List ℕ) (i n m : ℕ) → (ascii (take n (drop i s)) && ascii (take m (drop (i + n) s))) ≡ ascii (take (n + m) (drop i s))
 parts s i n m =
     rw (take-add n m (drop i s), drop-drop n i s)
     (sym (ascii_append (take n (drop i s)) (take m (drop (i + n) s))))
@@ -45,6 +45,9 @@ four s i h =
       parts s i 2 1,
     )
     (parts s i 3 1)
+
+pub eight : (s : List ℕ) (i : ℕ) (a b : Bool) → a ≡ ascii (take 4 (drop i s)) → b ≡ ascii (take 4 (drop (i + 4) s)) → (a && b) ≡ ascii (take 8 (drop i s))
+eight s i a b e f = rw (e, f) (parts s i 4 4)
 
 -- The loops over a text: a turn, a byte that is not ASCII, the end.
 module _ (s : List ℕ) (i : ℕ) (done : ascii (take i s) ≡ true) where
