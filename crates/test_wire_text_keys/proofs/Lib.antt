@@ -1,4 +1,3 @@
 -- Why the counts are what they count.
 mod Sums
-mod Decided
 mod Tally

@@ -34,8 +34,8 @@ pub fn run() {
     for at in 0..18 {
         reads(at);
     }
-    for i in 0..20 {
-        writes(EDGES[i]);
+    for x in EDGES {
+        writes(x);
     }
 }
 
@@ -79,8 +79,8 @@ fn writing(x: u64, width: Width) {
 
 fn shown(out: &[u8]) {
     test_text::word(b" ");
-    for i in 0..out.len() {
-        byte(out[i]);
+    for b in out {
+        byte(*b);
     }
 }
 

@@ -1,31 +1,28 @@
 // Every key with versions 0, 1, 2, 3 and 65,535: the pairs that have a layout, and how many have none, and why.
 ghost use Rattle.std.specs.Prelude.{◌≡◌, ◌≤◌};
-ghost use Rattle.protocol.specs.Decision.{decide};
-ghost use Rattle.test_wire_text_keys.specs.Keys.{refusal_of, refused, refused_versions, refused_pairs};
+ghost use Rattle.protocol.specs.Refusals.{number_of};
+ghost use Rattle.test_wire_text_keys.specs.Keys.{refused, refused_versions, refused_pairs};
 
-use protocol::{Decided, refusal};
+use protocol::Refusal;
 
 pub fn run() {
     listed();
     test_text::word(b"keys");
-    test_text::decimal(refusals(refusal::UNKNOWN_KEY));
-    test_text::decimal(refusals(refusal::UNKNOWN_VERSION));
+    test_text::decimal(refusals(Refusal::UnknownKey));
+    test_text::decimal(refusals(Refusal::UnknownVersion));
     test_text::line();
 }
 
 fn listed() {
-    for k in 0..65536u32 {
-        let key = k as u16;
-        show(key, 0);
-        show(key, 1);
-        show(key, 2);
-        show(key, 3);
-        show(key, 65535);
+    for key in 0..=u16::MAX {
+        for version in [0, 1, 2, 3, 65535] {
+            show(key, version);
+        }
     }
 }
 
 fn show(key: u16, version: u16) {
-    if answer(key, version) == 0 {
+    if protocol::layout_of(key, version).is_ok() {
         test_text::word(b"key");
         test_text::hex(key as u64, 4);
         test_text::decimal(version as u64);
@@ -33,47 +30,38 @@ fn show(key: u16, version: u16) {
     }
 }
 
-// How many of the pairs are refused with a number.
-fn refusals(number: u8) -> u64
-    ensures { result ≡ refused_pairs number }
+// How many of the pairs are refused for a reason.
+#[tactic(auto, using(crate::proofs::Sums::sum_none, crate::proofs::Sums::sum_more))]
+fn refusals(why: Refusal) -> u64
+    ensures { result ≡ refused_pairs (number_of why) }
 {
     let mut count: u64 = 0;
     for k in 0..65536u32 {
-        let key = k as u16;
-        count += refused_versions(number, key);
+        count += refused_versions(why, k as u16);
     }
     count
 }
 
-// How many of a key's versions are refused with a number.
-fn refused_versions(number: u8, key: u16) -> u64
-    ensures value { result ≡ refused_versions number key }
+// How many of a key's versions are refused for a reason.
+#[tactic(auto, unfolding(crate::specs::Keys::refused_versions))]
+fn refused_versions(why: Refusal, key: u16) -> u64
+    ensures value { result ≡ refused_versions (number_of why) key }
     ensures upper_bound { result ≤ 5 }
 {
-    refused(number, key, 0)
-        + refused(number, key, 1)
-        + refused(number, key, 2)
-        + refused(number, key, 3)
-        + refused(number, key, 65535)
+    refused(why, key, 0)
+        + refused(why, key, 1)
+        + refused(why, key, 2)
+        + refused(why, key, 3)
+        + refused(why, key, 65535)
 }
 
-// 1 if a key and a version are refused with a number, else 0.
-fn refused(number: u8, key: u16, version: u16) -> u64
-    ensures value { result ≡ refused number key version }
+// 1 if a key and a version are refused for a reason, else 0.
+fn refused(why: Refusal, key: u16, version: u16) -> u64
+    ensures value { result ≡ refused (number_of why) key version }
     ensures upper_bound { result ≤ 1 }
 {
-    if answer(key, version) == number { 1 } else { 0 }
-}
-
-// The refusal number, or 0 where there is a layout.
-fn answer(key: u16, version: u16) -> u8
-    ensures { result ≡ refusal_of (decide key version) }
-{
-    let picked = protocol::layout_of(key, version);
-    let decided = picked.decided;
-    match decided {
-        Decided::Layout => 0,
-        Decided::UnknownKey => refusal::UNKNOWN_KEY,
-        Decided::UnknownVersion => refusal::UNKNOWN_VERSION,
+    match protocol::layout_of(key, version) {
+        Err(refusal) if refusal == why => 1,
+        _ => 0,
     }
 }

@@ -13,8 +13,8 @@ struct Accepted {
 // A line for each leading byte: for each number of bytes after it how many texts pass, and the sum of their numbers
 // modulo 65,536.
 pub fn run() {
-    for lead in 0..256u32 {
-        of_lead(lead as u8);
+    for lead in 0..=u8::MAX {
+        of_lead(lead);
     }
 }
 
@@ -41,21 +41,19 @@ fn tally(lead: u8, len: usize, texts: usize) -> Accepted
     requires { (len ≤ 4) × (texts ≤ 1000) }
     ensures { result ≡ accepted lead len texts }
 {
-    let mut count: u64 = 0;
-    let mut sum: u64 = 0;
+    let mut count = 0;
+    let mut sum = 0;
     for k in 0..texts {
         if passes(lead, len, k) {
             count += 1;
             sum += k as u64;
         }
     }
-    Accepted {
-        count: count,
-        sum: sum,
-    }
+    Accepted { count, sum }
 }
 
 // Text number k: its decimal digits, the lowest first, choose the edges.
+#[tactic(auto, unfolding(crate::specs::Texts::passes))]
 fn passes(lead: u8, len: usize, k: usize) -> bool
     requires { len ≤ 4 }
     ensures { result ≡ passes lead len k }
