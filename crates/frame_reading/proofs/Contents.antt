@@ -17,17 +17,18 @@ use Rattle.rules.specs.Outcome.{Outcome, got, refused}
 use Rattle.rules.specs.Reading.{Reading, frame, short, refusal, read_content, read_decided, read_layout, reading_of}
 use Rattle.rules.proofs.Bounds.{Bounded, numbered, bounded_content}
 use Rattle.rules.proofs.Listed.{row_passes}
+use Rattle.std.specs.Prelude.{Ok, Err}
+use Rattle.protocol.specs.Refusals.{number_of}
 use Rattle.byte_strings.specs.Stops.{stop}
-use Rattle.byte_strings.specs.declared.stop.Stop.{Stop}
-use Rattle.byte_strings.proofs.Stops.{passed, stopped}
+use Rattle.byte_strings.specs.Stops as stops
+use Rattle.byte_strings.specs.declared.fault.Fault.{Fault}
+use Rattle.byte_strings.proofs.Stops.{read_to, refused_at}
 use Rattle.slots.specs.Flat.{flat_row, padded, flat_frame, slots_after}
 use Rattle.slots.specs.Unflat.{slots_in}
 use Rattle.slots.proofs.Overlaid.{padded_length}
 use Rattle.slot_reading.specs.Reading.{content_slots}
 use Rattle.slot_reading.proofs.RowSlots.{row_slots}
-use Rattle.frame_reading.specs.Answer.{told}
-use Rattle.frame_reading.specs.declared.reading.FrameRead.{FrameRead}
-use Rattle.frame_reading.specs.declared.reading.FrameRead.TheVariants.{Frame, Refused}
+use Rattle.frame_reading.specs.Answer.{FrameRead, Frame, Refused, told}
 
 -- The answer of a reader: what it tells, and what the slots hold afterwards.
 abbrev pub Answers : Reading → List ℕ → FrameRead → List ℕ → Type 0
@@ -60,28 +61,28 @@ place_inside k v s n p e = subst (Within s) e (decided (decide k v))
     decided unlisted_key = omega arith
     decided unlisted_version = omega arith
 
-module _ (k v : ℕ) (s : List ℕ) (row : Row) (is_row : row ≡ row_of k v) (e : Stop) (h : e ≡ stop (read_content row s)) where
-  -- Reading does not leave the content.
-  pub inside : e.at ≤ length s
-  inside = by (read_content row s) (bounded_content row s) h
-    where
-      by : (o : Outcome (List (Field Place))) → Bounded s 0 o → e ≡ stop o → e.at ≤ length s
-      by (got fs next) b i = rw i (b.1 (omega arith))
-      by (refused n p) b i = rw i (b.1 (omega arith))
+module _ (k v : ℕ) (s : List ℕ) (row : Row) (is_row : row ≡ row_of k v) where
+  module _ (fault : Fault) (h : stops.told (Err fault) ≡ stop (read_content row s)) where
+    -- What is refused is refused within the content.
+    pub inside : fault.at ≤ length s
+    inside = by (read_content row s) (bounded_content row s) (refused_at (read_content row s) fault h)
+      where
+        by : (o : Outcome (List (Field Place))) → Bounded s 0 o → o ≡ refused (number_of fault.refusal) fault.at → fault.at ≤ length s
+        by (got fs next) b i = cc
+        by (refused n p) b i = let j : p ≡ fault.at = cc in rw (← j) (b.1 (omega arith))
 
-  module _ (old new : List ℕ) (g : new ≡ content_slots k v row (read_content row s) old) where
-    pub content_refused : (r : FrameRead) → r ≡ Refused e.refused (8 + e.at) → (e.refused ≡ 0 → ⊥) → Answers (read_layout k v s) old r new
+    pub content_refused : (old new : List ℕ) (r : FrameRead) → new ≡ content_slots k v row (read_content row s) old → r ≡ Refused (number_of fault.refusal) (8 + fault.at) → Answers (read_layout k v s) old r new
     unfolding read_layout
-    content_refused r t z =
-        let o = stopped (read_content row s) e h z in
+    content_refused old new r g t =
+        let o = refused_at (read_content row s) fault h in
         rw (← is_row, o) (t, rw o at g)
 
-    pub content_read : e.refused ≡ 0 → Answers (read_layout k v s) old Frame new
-    unfolding read_layout flat_frame
-    content_read z =
-        let o = passed (read_content row s) e (numbered s 0 (read_content row s) (bounded_content row s)) h z in
-        let gs = map (over_places (further 8)) o.0 in
-        let slots = k ∷ v ∷ flat_row row gs in
-        let fits : length slots ≤ 24 = omega (arith, row_slots row gs, rw (← is_row) at (roomy k v)) in
-        let all : take 24 (padded 24 slots) ≡ padded 24 slots = take_all 24 (padded 24 slots) (omega (arith, padded_length 24 slots fits)) in
-        rw (← is_row, o.1) (refl, (rw (o.1, all) at g) ∙ ap (λ (r : Row). padded 24 (k ∷ v ∷ flat_row r gs)) is_row)
+  pub content_read : (last : ℕ) → stops.told (Ok last) ≡ stop (read_content row s) → (old new : List ℕ) → new ≡ content_slots k v row (read_content row s) old → Answers (read_layout k v s) old Frame new
+  unfolding read_layout flat_frame
+  content_read last h old new g =
+      let o = read_to (read_content row s) last (numbered s 0 (read_content row s) (bounded_content row s)) h in
+      let gs = map (over_places (further 8)) o.0 in
+      let slots = k ∷ v ∷ flat_row row gs in
+      let fits : length slots ≤ 24 = omega (arith, row_slots row gs, rw (← is_row) at (roomy k v)) in
+      let all : take 24 (padded 24 slots) ≡ padded 24 slots = take_all 24 (padded 24 slots) (omega (arith, padded_length 24 slots fits)) in
+      rw (← is_row, o.1) (refl, (rw (o.1, all) at g) ∙ ap (λ (r : Row). padded 24 (k ∷ v ∷ flat_row r gs)) is_row)

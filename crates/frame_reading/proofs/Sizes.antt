@@ -1,5 +1,5 @@
 -- What the checks of Size, key and version come to. Assumes nothing.
-use mathlib.Core.Path.{◌≡◌, ◌∙◌}
+use mathlib.Core.Path.{◌≡◌, ◌∙◌, refl, subst}
 use mathlib.Core.Bool.{true, false}
 use mathlib.Core.List.{List}
 use Prim.Native.Nat.{ℕ, ◌+◌, ◌-◌, ◌≤◌, ◌<◌}
@@ -9,8 +9,11 @@ use lib.Seq.{length-take-le}
 use borrow.Author.Tests.{lt-ltb, le-ltb}
 use Rattle.wire.specs.Integers.{big_endian}
 use Rattle.wire.proofs.Widths.{in_part}
-use Rattle.protocol.specs.Decision.{decide}
-use Rattle.protocol.specs.Refusals.{frame_too_large, frame_too_small}
+use Rattle.std.specs.Prelude.{Some, Err}
+use Rattle.protocol.specs.Decision.{Decision, decide, decision_of, unlisted_key, unlisted_version}
+use Rattle.protocol.specs.Refusals.{frame_too_large, frame_too_small, number_of, unknown_version}
+use Rattle.protocol.specs.declared.refusal.Refusal.{Refusal}
+use Rattle.protocol.specs.declared.refusal.Refusal.TheVariants.{Short, FrameTooLarge, FrameTooSmall, UnknownKey, UnknownVersion, FieldCut, BadLength, NotUtf8, ReferenceTooLong, ValueNotAdmitted, BytesLeft, NoRoom, NotOpen, AlreadyOpen, NoCredit, OverLimit, NotOut}
 use Rattle.rules.specs.Reading.{refusal, short, over_limit, read_sized, read_decided, read_frame}
 use Rattle.frame_head.specs.Head.{head_of}
 use Rattle.frame_head.specs.declared.head.Head.{Head}
@@ -48,3 +51,26 @@ module _ (s : List ℕ) (limit : ℕ) (head : Head) (e : head ≡ head_of s) (fo
           let key : second.key ≡ big_endian 2 s 4 = key_there (take last s) second f (omega (arith, long)) ∙ in_part 2 last 4 s 0 (omega arith) in
           let version : second.version ≡ big_endian 2 s 6 = version_there (take last s) second f long ∙ in_part 2 last 6 s 0 (omega arith) in
           rw (framed, g, le-ltb _ _ h, le-ltb (length s) (head.size + 4) (omega arith), part, key, version)
+
+-- Key and version pick a layout, or are refused for one of two reasons.
+pub no_key : (A : Type 0) (k v : ℕ) (why : Refusal) (d : Decision) → why ≡ UnknownKey → decision_of {A = A} (Err why) k v ≡ Some d → unlisted_key ≡ d
+no_key A k v why d e i = let j : decision_of {A = A} (Err UnknownKey) k v ≡ Some d = subst (λ (w : Refusal). decision_of {A = A} (Err w) k v ≡ Some d) e i in cc
+
+pub no_version : (A : Type 0) (k v : ℕ) (why : Refusal) (d : Decision) → (why ≡ UnknownKey → ⊥) → decision_of {A = A} (Err why) k v ≡ Some d → (unlisted_version ≡ d) × (number_of why ≡ unknown_version)
+no_version A k v Short d n i = cc
+no_version A k v FrameTooLarge d n i = cc
+no_version A k v FrameTooSmall d n i = cc
+no_version A k v UnknownKey d n i = absurd (n refl)
+no_version A k v UnknownVersion d n i = (cc, refl)
+no_version A k v FieldCut d n i = cc
+no_version A k v BadLength d n i = cc
+no_version A k v NotUtf8 d n i = cc
+no_version A k v ReferenceTooLong d n i = cc
+no_version A k v ValueNotAdmitted d n i = cc
+no_version A k v BytesLeft d n i = cc
+no_version A k v NoRoom d n i = cc
+no_version A k v NotOpen d n i = cc
+no_version A k v AlreadyOpen d n i = cc
+no_version A k v NoCredit d n i = cc
+no_version A k v OverLimit d n i = cc
+no_version A k v NotOut d n i = cc

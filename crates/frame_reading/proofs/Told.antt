@@ -1,5 +1,5 @@
 -- Each answer of reading into slots is told of one kind of reading only. Assumes nothing.
-use mathlib.Core.Path.{◌≡◌, refl, ap, ◌∙◌}
+use mathlib.Core.Path.{◌≡◌, refl, ◌∙◌}
 use mathlib.Core.List.{List}
 use Prim.Native.Nat.{ℕ, ◌+◌}
 use native.Mathlib.Omega.{arith}
@@ -9,10 +9,12 @@ use Rattle.rules.specs.Answers.{reading_refusal}
 use Rattle.rules.specs.Reading.{Reading, frame, short, refusal}
 use Rattle.slots.specs.Flat.{flat_frame, slots_after}
 use Rattle.fast_reading.specs.Answer as Fast
-use Rattle.fast_reading.specs.declared.reading.Fast.TheVariants as fast
-use Rattle.frame_reading.specs.Answer.{told, refusal_of}
-use Rattle.frame_reading.specs.declared.reading.FrameRead.{FrameRead}
-use Rattle.frame_reading.specs.declared.reading.FrameRead.TheVariants.{Frame, Short, Refused}
+use Rattle.std.specs.Prelude.{Result, Some, None, Ok, Err}
+use Rattle.protocol.specs.Refusals.{number_of}
+use Rattle.byte_strings.specs.declared.fault.Fault.{Fault}
+use Rattle.frame_reading.specs.Answer.{FrameRead, Frame, Short, Refused, told, said, refusal_of}
+use Rattle.frame_reading.specs.declared.reading.ReadError.{ReadError}
+use Rattle.frame_reading.specs.declared.reading.ReadError.TheVariants as code
 use Rattle.frame_reading.proofs.Contents.{Answers}
 
 pub short_told : (r : Reading) (n : ℕ) → Short n ≡ told r → short n ≡ r
@@ -35,26 +37,25 @@ pub slots_told : (f : Fields Place) (r : Reading) (old new : List ℕ) → frame
 slots_told f r old new e h = rw (← e) at h
 
 -- An answer is the refusal that reading is.
-pub refused_as_read : (r : FrameRead) (x : Reading) → r ≡ told x → refusal_of r ≡ reading_refusal x
-refused_as_read r x e = ap refusal_of e ∙ by x
-  where
-    by : (x : Reading) → refusal_of (told x) ≡ reading_refusal x
-    by (frame f) = refl
-    by (short n) = refl
-    by (refusal n place) = refl
-
--- The answer, the slots afterwards, and the refusal that the answer is.
-pub all_told : (reading : Reading) (old : List ℕ) (r : FrameRead) (new : List ℕ) → Answers reading old r new → (r ≡ told reading) × ((new ≡ slots_after old reading) × (refusal_of r ≡ reading_refusal reading))
-all_told reading old r new a = (a.0, (a.1, refused_as_read r reading a.0))
+pub refused_as_read : {A : Type 0} (r : Result A ReadError) (x : Reading) → said r ≡ told x → refusal_of r ≡ reading_refusal x
+refused_as_read (Ok read) (frame f) e = refl
+refused_as_read (Ok read) (short n) e = cc
+refused_as_read (Ok read) (refusal n place) e = cc
+refused_as_read (Err (code.Short n)) (frame f) e = cc
+refused_as_read (Err (code.Short n)) (short m) e = cc
+refused_as_read (Err (code.Short n)) (refusal m place) e = cc
+refused_as_read (Err (code.Refused fault)) (frame f) e = cc
+refused_as_read (Err (code.Refused fault)) (short m) e = cc
+refused_as_read (Err (code.Refused fault)) (refusal m place) e = cc
 
 -- What the fast reader has read or refused, and what it leaves.
-pub has_read : (reading : Reading) (old new : List ℕ) → Fast.Answers reading old fast.Frame new → Answers reading old Frame new
+pub has_read : (reading : Reading) (old new : List ℕ) → Fast.Answers reading old (Some (Ok tt)) new → Answers reading old Frame new
 has_read reading old new (f, (e, p)) = rw e (refl, p)
 
-pub has_refused : (reading : Reading) (old : List ℕ) (n at : ℕ) (new : List ℕ) (r : FrameRead) → Fast.Answers reading old (fast.Refused n at) new → r ≡ Refused n (8 + at) → Answers reading old r new
-has_refused reading old n at new r (e, p) i = rw e (i, p)
+pub has_refused : (reading : Reading) (old : List ℕ) (fault : Fault) (new : List ℕ) (r : FrameRead) → Fast.Answers reading old (Some (Err fault)) new → r ≡ Refused (number_of fault.refusal) (8 + fault.at) → Answers reading old r new
+has_refused reading old fault new r (e, p) i = rw e (i, p)
 
-pub has_left : (reading : Reading) (old new : List ℕ) (r : FrameRead) (last : List ℕ) → Fast.Answers reading old fast.Unread new → Answers reading new r last → Answers reading old r last
+pub has_left : (reading : Reading) (old new : List ℕ) (r : FrameRead) (last : List ℕ) → Fast.Answers reading old None new → Answers reading new r last → Answers reading old r last
 has_left (frame f) old new r last h a = a
 has_left (short needed) old new r last h a = (a.0, a.1 ∙ h)
 has_left (refusal n place) old new r last h a = (a.0, a.1 ∙ h)

@@ -3,4 +3,4 @@
 
 mod reading;
 
-pub use reading::{FrameRead, read};
+pub use reading::{ReadError, read};
