@@ -27,8 +27,6 @@ pub fn check_list(src: &[u8], kind: ListKind, list: Elements) -> Result<(), Refu
     check_place(src, list)?;
     let start = list.place.at;
     let end = start + list.place.len;
-    match elements_end(&src[start..end], 0, kind.element, list.count) {
-        Ok(last) => check_left(last, list.place.len),
-        Err(fault) => Err(fault.refusal),
-    }
+    let last = elements_end(&src[start..end], 0, kind.element, list.count)?;
+    check_left(last, list.place.len)
 }

@@ -19,14 +19,16 @@ overflow_add-end c = omega (arith, (before_passed c.args.kind.rule (element_row 
 pub slice_bounds-elements_end-end : goal.slice_bounds-elements_end-end
 slice_bounds-elements_end-end c = omega (arith, (before_passed c.args.kind.rule (element_row c.args.kind.element) c.args.src.now c.args.list.count c.args.list.place 0 c.in_ok-check_place.ensures refl).0)
 
-pub returns-in-Ok : goal.returns-in-Ok
-returns-in-Ok c =
+pub returns-in_err-last : goal.returns-in_err-last
+returns-in_err-last c =
     let l = c.args.list in
-    let read = rw (lent c.args.src.now l.place.at l.place.len) at c.in-Ok.ensures in
-    elements_used c.args.kind.rule _ _ _ _ 0 c.in_ok-check_place.ensures refl (stop_at c.in-Ok.last 0) read _ refl c.check_left.ensures
+    let fault = c.in_err-last.field-0.0 in
+    let read = rw (lent c.args.src.now l.place.at l.place.len) at c.in_err-last.ensures in
+    let p = err_from_is_err_and c.from_residual-in_err-last.result c.from_residual-in_err-last.ensures.1 in
+    rw (p.1, p.2) (elements_refused c.args.kind.rule _ _ _ _ 0 c.in_ok-check_place.ensures refl (told (Err fault)) read (some_number fault.refusal))
 
-pub returns-in-Err : goal.returns-in-Err
-returns-in-Err c =
+pub returns : goal.returns
+returns c =
     let l = c.args.list in
-    let read = rw (lent c.args.src.now l.place.at l.place.len) at c.in-Err.ensures in
-    elements_refused c.args.kind.rule _ _ _ _ 0 c.in_ok-check_place.ensures refl (told (Err c.in-Err.fault)) read (some_number c.in-Err.fault.refusal)
+    let read = rw (lent c.args.src.now l.place.at l.place.len) at c.in_ok-last.ensures in
+    elements_used c.args.kind.rule _ _ _ _ 0 c.in_ok-check_place.ensures refl (stop_at c.in_ok-last.last 0) read _ refl c.check_left.ensures
