@@ -56,11 +56,9 @@ fn cut(s: &[u8], len: usize) {
 
 fn asked(chunk: &[u8]) {
     word(b"chunk");
-    said(chunk_reader::nth(chunk, 0));
-    said(chunk_reader::nth(chunk, 1));
-    said(chunk_reader::nth(chunk, 2));
-    said(chunk_reader::nth(chunk, 3));
-    said(chunk_reader::nth(chunk, 4));
+    for k in 0..5 {
+        said(chunk_reader::nth(chunk, k));
+    }
     line();
 }
 

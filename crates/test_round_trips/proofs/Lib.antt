@@ -1,3 +1,2 @@
--- What comparing bytes has to show, and what follows from each answer.
+-- What comparing bytes has to show.
 mod SameBytes
-mod Lengths

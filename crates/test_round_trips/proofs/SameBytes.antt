@@ -1,17 +1,15 @@
--- Bytes are compared one after another, and the first that differ decide. Assumes nothing.
-use Prim.Native.Nat.{ℕ, zero, suc, ◌+◌, ◌-◌, ◌≤◌, ◌<◌}
-use mathlib.Core.Path.{◌≡◌, refl, sym, ap, ap₂, ◌∙◌}
+-- Bytes that are the same in two slices, one after another. Assumes nothing.
+use Prim.Native.Nat.{ℕ, zero, suc, ◌≤◌, ◌<◌}
+use mathlib.Core.Path.{◌≡◌, refl, ap}
 use mathlib.Core.Bool.{Bool, true, false, ◌&&◌}
 use mathlib.Core.List.{List, [], ◌∷◌}
-use native.Mathlib.Numerals.{add-one}
+use mathlib.Core.Logic.{◌⊎◌, inl, inr}
 use native.Mathlib.Omega.{arith}
-use borrow.Author.Tests.{eq-eqb, ne_eqb}
 use lib.Dec.{eqb}
-use lib.ListN.{length, get_or, drop}
-use lib.Seq.{drop-cons}
-use Rattle.test_round_trips.specs.Trip.{alike}
-
--- ---- Both are there
+use lib.ListN.{length, take}
+use Rattle.std.specs.Str.{bytes_eq}
+use Rattle.rules.specs.Reading.{read_frame}
+use Rattle.test_round_trips.specs.Trip.{alike, is_frame}
 
 unsame : {A : Type 0} → false ≡ true → A
 unsame e = absurd (let z : ◌≡◌ {A = ℕ} 0 1 = cc in omega arith)
@@ -28,33 +26,23 @@ both_there (suc n) (x ∷ s) (y ∷ t) e = let h = both_there n s t (second (eqb
     second false v e = unsame e
 
 -- Where one is cut they are not alike.
-cut : (t : Bool) → (t ≡ true → ⊥) → false ≡ t
-cut true h = absurd (h refl)
-cut false h = refl
+pub cut : (n : ℕ) (s t : List ℕ) → (length s < n) ⊎ ((n ≤ length s) × (length t < n)) → false ≡ alike n s t
+cut n s t h = by (alike n s t) (both_there n s t) h
+  where
+    by : (a : Bool) → (a ≡ true → (n ≤ length s) × (n ≤ length t)) → (length s < n) ⊎ ((n ≤ length s) × (length t < n)) → false ≡ a
+    by true f (inl l) = let g = f refl in absurd (omega (arith, g, l))
+    by true f (inr l) = let g = f refl in absurd (omega (arith, g, l.1))
+    by false f h = refl
 
-pub cut_first : (n : ℕ) (s t : List ℕ) → length s < n → false ≡ alike n s t
-cut_first n s t h = cut (alike n s t) (λ e. let l = both_there n s t e in absurd (omega (arith, h, l)))
+pub same_bytes : (n : ℕ) (s t : List ℕ) → n ≤ length s → n ≤ length t → bytes_eq (take n s) (take n t) ≡ alike n s t
+unfolding alike
+same_bytes zero s t h g = refl
+same_bytes (suc n) [] t h g = absurd (omega (arith, h))
+same_bytes (suc n) (x ∷ s) [] h g = absurd (omega (arith, g))
+same_bytes (suc n) (x ∷ s) (y ∷ t) h g = ap (λ (b : Bool). eqb x y && b) (same_bytes n s t (omega (arith, h)) (omega (arith, g)))
 
-pub cut_second : (n : ℕ) (s t : List ℕ) → length t < n → false ≡ alike n s t
-cut_second n s t h = cut (alike n s t) (λ e. let l = both_there n s t e in absurd (omega (arith, h, l)))
-
--- ---- Byte i
-
-module _ (n i : ℕ) (s t : List ℕ) where
-  pub all_alike : n ≤ i → alike (n - i) (drop i s) (drop i t) ≡ true
-  unfolding alike
-  all_alike h = ap (λ k. alike k (drop i s) (drop i t)) (let e : n - i ≡ 0 = omega arith in e)
-
-  module _ (more : i < n) (one : n ≤ length s) (other : n ≤ length t) where
-    byte : alike (n - i) (drop i s) (drop i t) ≡ (eqb (get_or s i 0) (get_or t i 0) && alike (n - (i + 1)) (drop (i + 1) s) (drop (i + 1) t))
-    unfolding alike
-    byte =
-        ap (λ k. alike k (drop i s) (drop i t)) (let e : n - i ≡ suc (n - (i + 1)) = omega arith in e)
-        ∙ ap₂ (alike (suc (n - (i + 1)))) (drop-cons s i 0 (omega arith)) (drop-cons t i 0 (omega arith))
-        ∙ ap (λ k. eqb (get_or s i 0) (get_or t i 0) && alike (n - (i + 1)) (drop k s) (drop k t)) (sym (add-one i))
-
-    pub same_byte : get_or s i 0 ≡ get_or t i 0 → alike (n - i) (drop i s) (drop i t) ≡ alike (n - (i + 1)) (drop (i + 1) s) (drop (i + 1) t)
-    same_byte e = byte ∙ rw (eq-eqb (get_or s i 0) (get_or t i 0) e)
-
-    pub other_byte : (get_or s i 0 ≡ get_or t i 0 → ⊥) → alike (n - i) (drop i s) (drop i t) ≡ false
-    other_byte e = byte ∙ rw (ne_eqb (get_or s i 0) (get_or t i 0) e)
+-- No bytes are no frame.
+pub not_empty : (n : ℕ) (out : List ℕ) → is_frame (read_frame (take n out) 0) ≡ true → 0 < n
+unfolding read_frame
+not_empty zero out e = unsame e
+not_empty (suc n) out e = omega arith
