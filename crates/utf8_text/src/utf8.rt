@@ -29,8 +29,8 @@ pub fn is_utf8(s: &[u8]) -> bool
     p.left == 0
 }
 
-// Eight bytes at a time; the last eight may overlap those before them. On texts of 8 to 200 bytes it is quicker than the
-// library's `is_ascii`, and on any than chunks of eight or a `step_by(8)`.
+// Eight bytes at a time; the last eight may overlap those before them. It is quicker than the library's `is_ascii` on texts of
+// 8 to 32 and of 65 to 200 bytes, and than `as_chunks` from 64 bytes on.
 fn is_ascii(s: &[u8]) -> bool
     ensures { result ≡ ascii s.now }
 {
