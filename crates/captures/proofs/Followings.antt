@@ -23,13 +23,10 @@ use Rattle.rules.specs.Exactness.{frame_length}
 use Rattle.rules.specs.Outcome.{Outcome, got, refused as unread}
 use Rattle.rules.specs.Reading.{Reading, frame, short, refusal, read_content, reading_of, read_layout, read_decided, over_limit, read_sized, read_frame}
 use Rattle.slots.specs.Flat.{padded, flat_frame, slots_after}
-use Rattle.frame_reading.specs.Answer.{told as read_told}
-use Rattle.frame_reading.specs.declared.reading.FrameRead.TheVariants.{Frame as FrameThere}
+use Rattle.frame_reading.specs.Answer.{Frame as FrameThere, told as read_told}
 use Rattle.frame_reading.proofs.Told.{frame_told}
-use Rattle.captures.specs.Answer.{told}
+use Rattle.captures.specs.Answer.{Told, Frame, Whole, Cut, Refused, More, told}
 use Rattle.captures.specs.Following.{Next, framed, whole, cut, refused, more, next_of, following, Says, SaysWhatIsRead, Rest, WindowTells, MoreIsShort, SlotsTell}
-use Rattle.captures.specs.declared.walker.Next.{Next as Answer}
-use Rattle.captures.specs.declared.walker.Next.TheVariants.{Frame, Whole, Cut, Refused, More}
 
 -- ---- What the code answers
 
@@ -57,15 +54,15 @@ module _ (s : List ℕ) (ended : Bool) (limit : ℕ) (n : length s ≡ 0 → ⊥
       rw (a l) (ap told (something_left ended (frame f.0) f.1 refl))
 
 -- What is known of what comes next by what is told of it.
-abbrev pub Tells : Answer → Next → Type 0
+abbrev pub Tells : Told → Next → Type 0
 Tells (Frame len) n = (f : Fields Place) × (n ≡ framed f len)
 Tells Whole n = n ≡ whole
 Tells (Cut left needed) n = n ≡ cut left needed
 Tells (Refused number) n = n ≡ refused number
 Tells More n = n ≡ more
 
-pub tells : (r : Answer) (n : Next) → r ≡ told n → Tells r n
-tells r n e = subst (λ (x : Answer). Tells x n) (sym e) (by n)
+pub tells : (r : Told) (n : Next) → r ≡ told n → Tells r n
+tells r n e = subst (λ (x : Told). Tells x n) (sym e) (by n)
   where
     by : (n : Next) → Tells (told n) n
     by (framed f len) = (f, refl)

@@ -4,4 +4,4 @@
 mod receiving;
 mod subscription;
 
-pub use receiving::{Received, receive};
+pub use receiving::{ReceiveError, receive};

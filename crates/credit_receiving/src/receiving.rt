@@ -4,17 +4,35 @@ ghost use Rattle.credit_ledger.specs.Calls.{received};
 ghost use Rattle.credit_ledger.specs.Numbers.{credit_refusal};
 ghost use Rattle.credit_ledger.specs.Step.{answer, after};
 ghost use Rattle.credit_receiving.specs.Answer.{said, answer_of, received_refusal, slots_after};
+ghost use Rattle.credit_receiving.specs.declared.receiving.ReceiveError.TheVariants as errors;
 
 use crate::subscription::{affords, spend, subscription_of};
-use frame_reading::FrameRead;
+use frame_reading::ReadError;
 use protocol::Refusal;
 
-#[derive(Clone, Copy)]
-pub enum Received {
-    // What reading answers: the slots are the frame's, or reading's own refusal.
-    Reading(FrameRead),
+// Why a received frame is not accepted.
+#[derive(Clone, Copy, Debug, PartialEq, Eq)]
+pub enum ReceiveError {
+    // It is not read.
+    Read(ReadError),
     // A Deliver whose id is not open (13) or has no credit left (15).
-    Refused(Refusal),
+    Ledger(Refusal),
+}
+
+impl From<ReadError> for ReceiveError {
+    ghost from_gives = { λ read error. error ≡ errors.Read read };
+
+    fn from(error: ReadError) -> ReceiveError {
+        ReceiveError::Read(error)
+    }
+}
+
+impl From<Refusal> for ReceiveError {
+    ghost from_gives = { λ refusal error. error ≡ errors.Ledger refusal };
+
+    fn from(refusal: Refusal) -> ReceiveError {
+        ReceiveError::Ledger(refusal)
+    }
 }
 
 // The frame is read first; if it is a Deliver, then 13, then 15, else the balance falls by one. Other frames leave the
@@ -24,7 +42,7 @@ pub fn receive(
     bytes: &[u8],
     limit: u32,
     slots: &mut [u64; 24],
-) -> Received
+) -> Result<(), ReceiveError>
     ensures value { said result ≡ answer_of (answer credits.old (received bytes.now limit)) }
     ensures credits_after { credits.new ≡ after credits.old (received bytes.now limit) }
     ensures slots_after { slots.new ≡ slots_after slots.old (answer credits.old (received bytes.now limit)) }
@@ -32,19 +50,11 @@ pub fn receive(
 {
     let subscription = subscription_of(bytes);
     if affords(credits, subscription) {
-        let read = frame_reading::read(bytes, limit, slots);
-        if let FrameRead::Frame = read {
-            // It has a credit, so this is not refused.
-            let _ = spend(credits, subscription);
-        }
-        return Received::Reading(read);
+        frame_reading::read(bytes, limit, slots)?;
+    } else {
+        let mut elsewhere = [0u64; 24];
+        frame_reading::read(bytes, limit, &mut elsewhere)?;
     }
-    let mut elsewhere = [0u64; 24];
-    let read = frame_reading::read(bytes, limit, &mut elsewhere);
-    if let FrameRead::Frame = read {
-        if let Err(refusal) = spend(credits, subscription) {
-            return Received::Refused(refusal);
-        }
-    }
-    Received::Reading(read)
+    spend(credits, subscription)?;
+    Ok(())
 }
