@@ -18,7 +18,7 @@ use Rattle.protocol.specs.declared.place.Place.{Place}
 use Rattle.rules.specs.Reading.{read_frame}
 use Rattle.slots.specs.Flat.{slots_after}
 use Rattle.captures.specs.Following.{Next, framed, whole, cut, refused, more, following, Rest, KeySlots}
-use Rattle.captures.specs.Answer.{told}
+use Rattle.captures.specs.Answer.{said, told}
 use Rattle.captures.specs.declared.walker.Next.{Next as Answer}
 use Rattle.captures.specs.declared.walker.Next.TheVariants.{Frame}
 use Rattle.captures.proofs.Followings.{Tells, tells, framed_there, slots_tell, window_known}
@@ -214,12 +214,12 @@ pub record FrameAt (w : List ℕ) (from : ℕ) (ended : Bool) (len : ℕ) (slots
   pub inside : from ≤ length w → from + len ≤ length w
 
 -- What the walker tells of the window from a place on, as it is lent.
-module _ (w : List ℕ) (from : ℕ) (ended : Bool) (r : Answer) (e : r ≡ told (following (take (length w - from) (drop from w)) ended limit)) where
+module _ (w : List ℕ) (from : ℕ) (ended : Bool) (r : Answer) (e : said r ≡ told (following (take (length w - from) (drop from w)) ended limit)) where
   lent : take (length w - from) (drop from w) ≡ drop from w
   lent = take_all (length w - from) (drop from w) (rw (length-drop from w) (omega arith))
 
-  pub next_is : (x : Answer) → r ≡ x → Tells x (following (drop from w) ended limit)
-  next_is x g = tells x _ (sym g ∙ (rw lent at e))
+  pub next_is : (x : Answer) → r ≡ x → Tells (said x) (following (drop from w) ended limit)
+  next_is x g = tells (said x) _ (sym (ap said g) ∙ (rw lent at e))
 
   pub frame_is : (len : ℕ) (old slots : List ℕ) → r ≡ Frame len → Bytes w → slots ≡ slots_after old (read_frame (take (length w - from) (drop from w)) limit) → FrameAt w from ended len slots
   unfolding Bytes

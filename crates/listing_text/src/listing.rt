@@ -65,8 +65,8 @@ impl Progress {
                 text.cut_line(self.offset, left, needed);
                 self.closed(&mut text, b" cut\n")
             }
-            Next::Refused { number } => {
-                text.refused_line(self.offset, number);
+            Next::Refused(refusal) => {
+                text.refused_line(self.offset, refusal.number());
                 self.closed(&mut text, b" refused\n")
             }
             Next::More => self.halted(text.len, State::More),

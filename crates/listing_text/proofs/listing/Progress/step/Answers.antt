@@ -38,7 +38,7 @@ returns-in-Cut c =
 pub returns-in-Refused : goal.returns-in-Refused
 returns-in-Refused c =
     let closed = c.closed-in-Refused.ensures in
-    rw (next_is c.args.window.now c.args.self.from _ _ c.next_frame.ensures.value _ c.in-Refused.is) (steps_by _ _ _ _ (then c.refused_line.ensures closed.prints) refl (search rules) closed.value)
+    rw (next_is c.args.window.now c.args.self.from _ _ c.next_frame.ensures.value _ c.in-Refused.is) (steps_by _ _ _ _ (then (rw c.number.ensures at c.refused_line.ensures) closed.prints) refl (search rules) closed.value)
 
 pub returns-in-More : goal.returns-in-More
 returns-in-More c = rw (next_is c.args.window.now c.args.self.from _ _ c.next_frame.ensures.value _ c.in-More.is) (steps_more _ _ _ c.halted.ensures)
