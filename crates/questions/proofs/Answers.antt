@@ -12,8 +12,7 @@ use Rattle.protocol.specs.declared.place.Place.{Place}
 use Rattle.rules.specs.Outcome.{Outcome, got, refused, mapped, repeated}
 use Rattle.rules.specs.Reading.{has_entries, read_entry, read_row}
 use Rattle.rules.proofs.Bounds.{numbered_entry, numbered_repeated, numbered_row}
-use Rattle.byte_strings.specs.Stops.{stop}
-use Rattle.byte_strings.specs.declared.stop.Stop.{Stop}
+use Rattle.byte_strings.specs.Stops.{Stop, stop}
 use Rattle.byte_strings.proofs.Stops.{passed, stopped}
 use Rattle.chunks.proofs.Entries.{EntryRead, entry_read}
 use Rattle.slot_reading.specs.Reading.{element_in, element_slots}

@@ -1,12 +1,12 @@
 -- What the answers to questions say, in the terms of the rules.
-use Rattle.std.specs.Prelude.{List, ℕ}
+use Rattle.std.specs.Prelude.{List, ℕ, Result, Ok, Err}
 use Rattle.protocol.specs.Fields.{Field}
 use Rattle.protocol.specs.Kinds.{Row}
 use Rattle.protocol.specs.declared.place.Place.{Place}
+use Rattle.protocol.specs.Refusals.{number_of}
+use Rattle.protocol.specs.declared.refusal.Refusal.{Refusal}
 use Rattle.slots.specs.Flat.{flat_element}
 use Rattle.questions.specs.Questions.{Asked, found, refusal}
-use Rattle.questions.specs.declared.messages.AskedPlace.{AskedPlace}
-use Rattle.questions.specs.declared.messages.AskedPlace.TheVariants.{Place as Found, Refused}
 
 -- An element as its slots.
 abbrev pub flat_asked : Row → Asked (List (Field Place)) → Asked (List ℕ)
@@ -19,6 +19,6 @@ asked_slots old (found slots) = slots
 asked_slots old (refusal n) = old
 
 -- The message's place, or the refusal's number.
-abbrev pub place_answer : AskedPlace → Asked Place
-place_answer (Found p) = found p
-place_answer (Refused n) = refusal n
+abbrev pub place_answer : Result Place Refusal → Asked Place
+place_answer (Ok p) = found p
+place_answer (Err r) = refusal (number_of r)

@@ -5,4 +5,4 @@ mod asking;
 mod messages;
 
 pub use asking::element;
-pub use messages::{AskedPlace, message, message_place, message_refusal};
+pub use messages::{check_message, message, message_place};
