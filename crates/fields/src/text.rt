@@ -44,7 +44,8 @@ pub fn put_nullable(
     }
 }
 
-// T, R and B, put at a place.
+// T, R and B, put at a place. It is inlined where the form is known, and the length's width with it.
+#[inline(always)]
 pub fn put_string(out: &mut [u8], at: usize, src: &[u8], form: Form, place: Place) -> usize
     ensures { holds out.new result ≡ put_string (length_width form) src.now (place_field place).octets (holds out.old at) }
 {

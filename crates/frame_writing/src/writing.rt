@@ -23,7 +23,8 @@ pub fn write(slots: &[u64; 24], src: &[u8], limit: u32, out: &mut [u8]) -> Resul
 
 // The slots may hold what no typed frame does: a key (4) or a version (5) that is not listed, and numbers too wide for their
 // fields (10). The fields' checks come first, then Size above the limit or above 4,294,967,295 (2), then the room in out (12);
-// only then is a byte put.
+// only then is a byte put. It is kept out of `write`, whose fast way would have to store its arguments for it.
+#[inline(never)]
 fn write_any(slots: &[u64; 24], src: &[u8], limit: u32, out: &mut [u8]) -> Result<u64, Refusal>
     ensures { writing_of result out.new ≡ write_flat slots.now src.now limit out.old }
 {
