@@ -1,5 +1,4 @@
--- What the proofs of several functions use.
-mod Questions
+-- Theorems that other crates cite.
 pub mod Elements
 pub mod Messages
 pub mod Numbers
