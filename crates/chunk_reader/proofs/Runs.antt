@@ -4,7 +4,7 @@
 use mathlib.Core.Path.{◌≡◌, refl, sym, ◌∙◌, ap, subst}
 use mathlib.Core.Bool.{Bool, true, false, not, cond}
 use mathlib.Core.List.{List, [], ◌∷◌, ◌++◌, map, append-nil}
-use Prim.Native.Nat.{ℕ, zero, suc, ◌+◌, ◌-◌, ◌≤◌, ◌<◌}
+use Prim.Native.Nat.{ℕ, zero, suc, ◌+◌, ◌-◌, ◌≤◌, ◌<◌, min}
 use native.Mathlib.Nat.{not-suc-le-zero, le_of_suc-le-suc}
 use native.Mathlib.Omega.{arith}
 use lib.Dec.{ltb, leb, eqb}
@@ -212,9 +212,16 @@ messages_few (suc n) s at = by (read_entry s at) (λ next. messages_few n s next
     by (got p next) h = let l : length (messages_at n s next) ≤ n = h next in omega (arith, l)
     by (refused m p) h = omega arith
 
-pub enough : (c : Bor (List ℕ)) (k : ℕ) → says c (suc (cond (ltb (started c.now).left k) (started c.now).left k)) ≡ answer c.now k
+lesser : (a b : ℕ) → min a b ≡ cond (ltb a b) a b
+lesser a b = by (ltb a b) refl
+  where
+    by : (t : Bool) → ltb a b ≡ t → min a b ≡ cond t a b
+    by true e = let l = ltb-true a b e in omega arith
+    by false e = let l = ltb-false a b e in omega arith
+
+pub enough : (c : Bor (List ℕ)) (k : ℕ) → says c (suc (min (started c.now).left k)) ≡ answer c.now k
 unfolding started answer
-enough c k = each c _ ∙ by_outcome (read_chunk c.now 0)
+enough c k = rw (lesser (started c.now).left k) (each c _ ∙ by_outcome (read_chunk c.now 0))
   where
     by_test : (n : ℕ) (t : Bool) → ltb n k ≡ t → length (messages_of c.now) ≤ n → message_or_done (messages_of c.now) (cond t n k) ≡ message_or_done (messages_of c.now) k
     by_test n true e l =

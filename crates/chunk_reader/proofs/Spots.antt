@@ -1,26 +1,21 @@
 -- A reader's place is where the definitions of reading lead: a chunk's or an entry's end tells which outcome it is, since a
 -- refusal's number is never 0. Assumes nothing.
-use mathlib.Core.Path.{◌≡◌, refl}
-use mathlib.Core.Bool.{Bool, true, false, cond}
-use mathlib.Core.List.{List, []}
+use mathlib.Core.Path.{◌≡◌}
+use mathlib.Core.Bool.{true, false}
+use mathlib.Core.List.{List}
 use Prim.Native.Nat.{ℕ, ◌+◌, ◌-◌}
 use native.Mathlib.Omega.{arith}
-use lib.Dec.{ltb}
-use lib.ListN.{length}
 use borrow.Author.Tests.{eq-eqb, ne_eqb}
 use Rattle.wire.proofs.Widths.{or_zero_lem}
 use Rattle.protocol.specs.Fields.{place}
 use Rattle.rules.specs.Reading.{read_chunk, read_entry}
-use Rattle.byte_strings.specs.Stops.{stop}
-use Rattle.byte_strings.specs.declared.stop.Stop.{Stop}
+use Rattle.byte_strings.specs.Stops.{Stop, stop}
 use Rattle.byte_strings.proofs.Stops.{stopped}
 use Rattle.chunks.specs.Entries.{entry_count}
 use Rattle.chunks.proofs.Chunks.{whole}
 use Rattle.chunks.proofs.Entries.{entry_read}
-use Rattle.parts.specs.Parts.{part_at}
-use Rattle.chunk_reader.specs.Messages.{is_refused, place_in, message_in}
+use Rattle.chunk_reader.specs.Messages.{is_refused}
 use Rattle.chunk_reader.specs.Reader.{spot, started, behind_entry, advanced}
-use Rattle.chunk_reader.specs.declared.spot.Found.{Found}
 use Rattle.chunk_reader.specs.declared.spot.Found.TheVariants.{Ready, Message, Done, Refused}
 use Rattle.chunk_reader.specs.declared.spot.Spot.{Spot}
 
@@ -59,14 +54,3 @@ module _ (s : List ℕ) (p : Spot) where
 
       pub entry_found : e.refused ≡ 0 → spot e.at (p.left - 1) (Message (place (p.at + 4) (e.at - (p.at + 4)))) ≡ advanced s p
       entry_found z = let r = entry_read s p.at e i z in rw (asks_entry, r.read)
-
-empty : (t : Bool) → cond {A = List ℕ} t [] [] ≡ []
-empty true = refl
-empty false = refl
-
--- The part at the place that was found.
-pub message_part_lem : (s : List ℕ) (f : Found) → part_at s (place_in f) ≡ message_in s f
-message_part_lem s Ready = empty (ltb (length s) 0)
-message_part_lem s (Message p) = refl
-message_part_lem s Done = empty (ltb (length s) 0)
-message_part_lem s (Refused n) = empty (ltb (length s) 0)

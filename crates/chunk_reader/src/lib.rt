@@ -5,5 +5,5 @@
 mod reader;
 mod spot;
 
-pub use reader::{ChunkReader, found, message, new, next, nth};
+pub use reader::{ChunkReader, nth};
 pub use spot::{Found, Spot, advance, part, start};

@@ -1,6 +1,6 @@
 // A chunk reader's own place, as plain data, and the work that is done on it.
-ghost use Rattle.std.specs.Prelude.{◌≡◌, cond, ltb};
-ghost use Rattle.chunk_reader.specs.Messages.{is_refused, place_in, message_in};
+ghost use Rattle.std.specs.Prelude.{◌≡◌};
+ghost use Rattle.chunk_reader.specs.Messages.{is_refused, message_in};
 ghost use Rattle.chunk_reader.specs.Reader.{started, advanced};
 
 use chunks::{chunk_end, entry_count, entry_end};
@@ -29,62 +29,59 @@ pub struct Spot {
 }
 
 // In front of the first entry, if the bytes are one well-formed chunk.
+#[tactic(auto, using(crate::proofs::Spots::starts_refused, crate::proofs::Spots::starts_ready, protocol::proofs::Refused::some_number))]
 pub fn start(s: &[u8]) -> Spot
     ensures { result ≡ started s.now }
 {
-    let end = chunk_end(s, 0);
-    let number = end.refused;
-    if number != 0 {
-        return Spot {
+    match chunk_end(s, 0) {
+        Ok(_) => Spot {
+            at: 48,
+            left: entry_count(s),
+            found: Found::Ready,
+        },
+        Err(fault) => Spot {
             at: 0,
             left: 0,
-            found: Found::Refused(number),
-        };
-    }
-    Spot {
-        at: 48,
-        left: entry_count(s),
-        found: Found::Ready,
+            found: Found::Refused(fault.refusal.number()),
+        },
     }
 }
 
 // A question. A place that the host made up is read like any other (specs/Reader.antt, `advanced`).
-#[tactic(auto, using(crate::proofs::Spots::stays_refused, crate::proofs::Spots::is_done, crate::proofs::Spots::entry_refused, crate::proofs::Spots::entry_found))]
+#[tactic(auto, using(crate::proofs::Spots::stays_refused, crate::proofs::Spots::is_done, crate::proofs::Spots::entry_refused, crate::proofs::Spots::entry_found, protocol::proofs::Refused::some_number))]
 pub fn advance(s: &[u8], p: Spot) -> Spot
     ensures { result ≡ advanced s.now p }
 {
-    let found = p.found;
-    if is_refused(found) {
+    if is_refused(p.found) {
         return p;
     }
     let at = p.at;
     let left = p.left;
     if left == 0 {
         return Spot {
-            at: at,
+            at,
             left: 0,
             found: Found::Done,
         };
     }
-    let end = entry_end(s, at);
-    let number = end.refused;
-    if number != 0 {
-        return Spot {
-            at: at,
-            left: left,
-            found: Found::Refused(number),
-        };
-    }
-    let next = end.at;
-    let first = at + 4;
-    let place = Place {
-        at: first,
-        len: next - first,
-    };
-    Spot {
-        at: next,
-        left: left - 1,
-        found: Found::Message(place),
+    match entry_end(s, at) {
+        Ok(next) => {
+            let first = at + 4;
+            let place = Place {
+                at: first,
+                len: next - first,
+            };
+            Spot {
+                at: next,
+                left: left - 1,
+                found: Found::Message(place),
+            }
+        }
+        Err(fault) => Spot {
+            at,
+            left,
+            found: Found::Refused(fault.refusal.number()),
+        },
     }
 }
 
@@ -93,38 +90,14 @@ pub fn advance(s: &[u8], p: Spot) -> Spot
 pub fn part<'a>(s: &'a [u8], p: Spot) -> &'a [u8]
     ensures { result.now ≡ message_in s.now p.found }
 {
-    let found = p.found;
-    parts::part(s, place_in(found))
-}
-
-// The smaller of two numbers.
-pub fn fewer(a: usize, b: usize) -> usize
-    ensures { result ≡ cond (ltb a b) a b }
-{
-    if a < b {
-        return a;
+    match p.found {
+        Found::Message(place) => parts::part(s, place),
+        Found::Ready | Found::Done | Found::Refused(_) => &s[..0],
     }
-    b
 }
 
 fn is_refused(found: Found) -> bool
     ensures { result ≡ is_refused found }
 {
-    match found {
-        Found::Ready => false,
-        Found::Message(_) => false,
-        Found::Done => false,
-        Found::Refused(_) => true,
-    }
-}
-
-fn place_in(found: Found) -> Place
-    ensures { result ≡ place_in found }
-{
-    match found {
-        Found::Ready => Place { at: 0, len: 0 },
-        Found::Message(place) => place,
-        Found::Done => Place { at: 0, len: 0 },
-        Found::Refused(_) => Place { at: 0, len: 0 },
-    }
+    matches!(found, Found::Refused(_))
 }

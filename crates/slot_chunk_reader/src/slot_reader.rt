@@ -34,8 +34,8 @@ pub fn next_entry(chunk: &[u8], reader: &mut [u64; 4], entry: &mut [u64; 8]) -> 
     let next = advance(
         chunk,
         Spot {
-            at: at,
-            left: left,
+            at,
+            left,
             found: Found::Ready,
         },
     );

@@ -3,7 +3,7 @@
 use mathlib.Core.Path.{◌≡◌, refl, ◌∙◌, sym, ap, ap₂}
 use mathlib.Core.Bool.{true, false}
 use mathlib.Core.List.{List, [], ◌∷◌, ◌++◌, append_assoc, map}
-use Prim.Native.Nat.{ℕ, ◌-◌, ◌%◌, ◌^◌, ◌<◌, ◌≤◌}
+use Prim.Native.Nat.{ℕ, ◌+◌, ◌-◌, ◌%◌, ◌^◌, ◌<◌, ◌≤◌}
 use native.Mathlib.Nat.{mod-eq_of_lt}
 use native.Mathlib.Omega.{arith}
 use lib.Dec.{eqb}
@@ -22,7 +22,7 @@ use Rattle.protocol.specs.declared.chunk.ChunkHeader.{ChunkHeader}
 use Rattle.protocol.specs.declared.place.Place.{Place}
 use Rattle.rules.specs.Grammar.{ValidHeader, Valid, ValidRow}
 use Rattle.rules.specs.Exactness.{frame_length}
-use Rattle.rules.specs.Reading.{frame, read_frame}
+use Rattle.rules.specs.Reading.{Reading, frame, read_frame}
 use Rattle.rules.proofs.Gives.{choice}
 use Rattle.rules.proofs.CompleteChunks.{type_fits}
 use Rattle.rules.proofs.Listed.{both, differ}
@@ -31,9 +31,12 @@ use Rattle.rules.proofs.Sound.{sound}
 use Rattle.slots.specs.Flat.{null_length, flat_header, flat_place, flat_field, flat_row, padded, flat_frame, slots_after}
 use Rattle.slots.proofs.Fields.{plain, plain_row, plain_table, offset_fits, of_kind, row_cases, no_more, no_fewer, told_octets}
 use Rattle.slots.proofs.Inverse.{octets_back, offset_back, field_behind}
-use Rattle.frame_reading.specs.Answer.{told}
-use Rattle.frame_reading.specs.declared.reading.FrameRead.TheVariants.{Frame}
-use Rattle.frame_reading.proofs.Told.{frame_told, slots_told}
+use Rattle.std.specs.Prelude.{Err}
+use Rattle.frame_reading.specs.Answer.{Frame, told, said}
+use Rattle.frame_reading.specs.declared.reading.ReadError.{ReadError}
+use Rattle.frame_reading.specs.declared.reading.ReadError.TheVariants.{Short, Refused}
+use Rattle.typed_frames.specs.Answer.{answer_of}
+use Rattle.frame_reading.proofs.Told.{frame_told, refusal_told, short_told, slots_told}
 use Rattle.slot_taker.specs.Typed.{cut, typed_header, typed_field, typed_row, typed_of, typed_fields}
 
 -- ---- A chunk's header
@@ -136,3 +139,8 @@ module _ (s : List ℕ) (limit : ℕ) (old new : List ℕ) (bytes : Bytes s) (t 
   pub read_typed_lem : (g : Fields Place) → g ≡ typed_fields (get_or new 0 0) (get_or new 1 0) new → frame g ≡ read_frame s limit
   unfolding flat_frame padded
   read_typed_lem g e = ap frame (e ∙ ap (λ (x : List ℕ). typed_fields (get_or x 0 0) (get_or x 1 0) x) slots ∙ frame_back s limit read.0 bytes (sym read.1)) ∙ read.1
+
+-- A refusal is told as it is.
+pub refused_as_told : (e : ReadError) (r : Reading) → said {A = Unit} (Err e) ≡ told r → answer_of (Err e) ≡ r
+refused_as_told (Short needed) r i = short_told r needed i
+refused_as_told (Refused fault) r i = refusal_told r _ _ i

@@ -4,5 +4,5 @@
 mod reading;
 mod writing;
 
-pub use reading::{Reading, read};
+pub use reading::read;
 pub use writing::write;
