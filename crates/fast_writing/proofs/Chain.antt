@@ -16,7 +16,7 @@ use Rattle.rules.specs.Writing.{Encoding, wrote, write_encoded}
 use Rattle.rules.specs.Writing as rules
 use Rattle.protocol.specs.Fields.{bytes_at}
 use Rattle.protocol.specs.declared.place.Place.{Place}
-use Rattle.fields.specs.Passes.{behind, copied_behind}
+use Rattle.fields.specs.Passes.{behind, copied_behind, put_list}
 use Rattle.frame_head.specs.Size.{Fits}
 use Rattle.fast_writing.specs.Puts.{halves}
 
@@ -55,6 +55,11 @@ part_next src o q n m from len h l i j = j ∙ copied_there o n src from len l �
 pub text_next : (src o q : List ℕ) (n m : ℕ) (p : Place) (h : Holds) → p.at + p.len ≤ length src → holds o n ≡ h → holds q m ≡ copied_behind src p (behind (digits 2 p.len) (holds o n)) → holds q m ≡ behind (bytes_at src p) (behind (digits 2 p.len) h)
 text_next src o q n m p h l i j =
     part_next src (behind (digits 2 p.len) (holds o n)).bytes q (behind (digits 2 p.len) (holds o n)).next m p.at p.len (behind (digits 2 p.len) h) l (ap (behind (digits 2 p.len)) i) j
+
+-- And of a list, whose count does.
+pub list_next : (src o q : List ℕ) (n m count : ℕ) (p : Place) (h : Holds) → p.at + p.len ≤ length src → holds o n ≡ h → holds q m ≡ put_list src count p (holds o n) → holds q m ≡ behind (bytes_at src p) (behind (digits 4 count) h)
+list_next src o q n m count p h l i j =
+    part_next src (behind (digits 4 count) (holds o n)).bytes q (behind (digits 4 count) (holds o n)).next m p.at p.len (behind (digits 4 count) h) l (ap (behind (digits 4 count)) i) j
 
 -- Two halves of a number.
 pub eight_next : (o q : List ℕ) (n m v : ℕ) (h : Holds) → holds o n ≡ h → holds q m ≡ halves v (holds o n) → holds q m ≡ halves v h

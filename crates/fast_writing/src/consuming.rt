@@ -6,7 +6,7 @@ use crate::puts::put_eight;
 use byte_strings::is_string;
 use fields::{is_number, put_string};
 use frame_head::{fits, put_head};
-use lists::check_list;
+use lists::{check_list, put_list};
 use protocol::{Element, Form, Refusal, plain_list};
 use slot_writing::{check_chunk, put_chunk};
 use slots::{list_of, place_of};
@@ -56,8 +56,7 @@ pub fn subscribe(
     let next = wire::put_number(out, next, Width::Two, 4);
     let next = put_eight(out, next, value);
     let next = wire::put_number(out, next, Width::Two, credit);
-    let next = wire::put_number(out, next, Width::Four, properties.count as u64);
-    wire::put_bytes(out, next, src, properties.place.at, properties.place.len);
+    put_list(out, next, src, properties);
     Some(Ok(size as u64 + 4))
 }
 

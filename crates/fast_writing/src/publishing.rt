@@ -7,7 +7,7 @@ ghost use Rattle.fast_writing.specs.Answer.{WritesAs, write_row_of, listed};
 use byte_strings::is_string;
 use fields::{is_number, put_string};
 use frame_head::{fits, put_head};
-use lists::check_list;
+use lists::{check_list, put_list};
 use number_lists::check_numbers;
 use protocol::{Element, Elements, Form, Refusal, plain_list};
 use slots::{list_of, place_of};
@@ -109,7 +109,6 @@ fn put_listed(
     }
     let next = put_head(out, size, key, 1);
     let next = wire::put_number(out, next, Width::One, publisher_id);
-    let next = wire::put_number(out, next, Width::Four, list.count as u64);
-    wire::put_bytes(out, next, src, list.place.at, list.place.len);
+    put_list(out, next, src, list);
     Some(Ok(size as u64 + 4))
 }

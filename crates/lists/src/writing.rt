@@ -19,6 +19,7 @@ pub fn measure_list(src: &[u8], kind: ListKind, list: Elements) -> Result<usize,
 }
 
 // A list, put at a place. Answers the place behind it.
+#[inline(always)]
 pub fn put_list(out: &mut [u8], at: usize, src: &[u8], list: Elements) -> usize
     ensures { holds out.new result ≡ put_list src.now list.count list.place (holds out.old at) }
 {

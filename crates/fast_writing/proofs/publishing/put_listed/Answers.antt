@@ -1,6 +1,6 @@
 -- The id and the list are put behind the head.
 use Rattle.std.proofs.Common.{◌∷◌, [], ◌++◌, length, take, drop, refl, sym, ◌∙◌, arith}
-use Rattle.fast_writing.proofs.Chain.{frame_put, put_next, part_next}
+use Rattle.fast_writing.proofs.Chain.{frame_put, put_next, list_next}
 use Rattle.fast_writing.proofs.Encoded.{listed_row}
 use Rattle.fast_writing.proofs.publishing.put_listed.Goals as goal
 
@@ -8,4 +8,4 @@ pub returns : goal.returns
 returns c =
     let l = c.args.list in
     frame_put c.args.key _ _ c.args.out.now _ _ _ _ (listed_row c.args.publisher_id l.count c.args.src.now l.place c.requires) (c.fits.ensures.0 c.if-not-fits.false)
-    (part_next c.args.src.now _ _ _ _ _ _ _ c.requires (put_next _ _ _ _ _ _ (put_next _ _ _ _ _ _ c.put_head-next.ensures c.put_number-next.ensures) c.put_number-next-2.ensures) c.put_bytes.ensures)
+    (list_next c.args.src.now _ _ _ _ l.count l.place _ c.requires (put_next _ _ _ _ _ _ c.put_head-next.ensures c.put_number-next.ensures) c.put_list.ensures)
