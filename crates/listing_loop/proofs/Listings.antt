@@ -1,6 +1,6 @@
 -- What the window holds is what was read from the offset on. So a listing of it makes the lines that come next in the listing of
 -- the capture, and stops for a reason that holds of the capture too. Assumes nothing.
-use mathlib.Core.Path.{◌≡◌, refl, sym, ◌∙◌, ap, subst}
+use mathlib.Core.Path.{◌≡◌, sym, ◌∙◌, ap, subst}
 use mathlib.Core.Bool.{Bool, false}
 use mathlib.Core.List.{List, ◌++◌, append_assoc, append-nil}
 use Prim.Native.Nat.{ℕ, ◌+◌, ◌-◌, ◌≤◌, ◌<◌}
@@ -18,7 +18,7 @@ use Rattle.listing_text.specs.declared.listing.Progress.{Progress}
 use Rattle.listing_text.specs.declared.listing.State.{State}
 use Rattle.listing_text.specs.declared.listing.State.TheVariants.{Going, More, Done, TooLong}
 use Rattle.listing_loop.specs.History.{History, capture, handed, ended}
-use Rattle.listing_loop.specs.Stages.{is_listing, is_failed}
+use Rattle.listing_loop.specs.Stages.{is_failed}
 use Rattle.listing_loop.specs.Standing.{Begins, Stands}
 use Rattle.listing_loop.specs.declared.session.Session.{Session}
 use Rattle.listing_loop.specs.declared.session.Stage.{Stage}
