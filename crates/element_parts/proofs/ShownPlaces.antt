@@ -9,22 +9,16 @@ use Prim.Native.Nat.{ℕ, zero, suc, ◌+◌, ◌-◌, ◌<◌, ◌≤◌}
 use native.Mathlib.Omega.{arith}
 use lib.Dec.{eqb, leb, ltb}
 use lib.ListN.{length, drop, get_or, replicate, take}
-use lib.Seq.{drop-drop, drop-length}
-use denote.Enum.Declared.{tag_of}
-use types.Run.{OneOf, miss}
+use lib.Seq.{drop-length}
 use borrow.Author.Tests.{lt-ltb, eqb-true}
 use Rattle.wire.specs.Integers.{Bytes, big_endian}
 use Rattle.protocol.specs.Fields as F
 use Rattle.protocol.specs.Fields.{Field, bytes_at, further, outside, over_places, place}
-use Rattle.protocol.specs.Layouts.{front, kind_of, kind_said, row_by}
+use Rattle.protocol.specs.Layouts.{kind_of, row_from}
 use Rattle.protocol.specs.Kinds.{Kind, unsigned, signed, string, specification, list, chunk, Row, end, ◌·◌}
 use Rattle.protocol.specs.Refusals.{field_cut, value_not_admitted}
 use Rattle.protocol.specs.declared.chunk.ChunkHeader.{ChunkHeader}
-use Rattle.protocol.specs.contracts.kind.FieldKind.{the_type}
 use Rattle.protocol.specs.declared.kind.FieldKind.{FieldKind}
-use Rattle.protocol.specs.declared.kind.FieldKind.TheVariants.{Nothing, Number, Active, Signed, String, Specification, List as ListOf, Chunk}
-use Rattle.protocol.specs.declared.kind.Form.{Form}
-use Rattle.protocol.specs.declared.kind.ListKind.{ListKind}
 use Rattle.protocol.specs.declared.place.Place.{Place}
 use Rattle.rules.specs.Outcome.{Outcome, got, mapped, refused, then}
 use Rattle.rules.specs.Reading.{header_at, read_chunk, read_data, read_field, read_row, read_signed, read_string, read_unsigned}
@@ -34,7 +28,7 @@ use Rattle.slot_reading.proofs.FieldSlots.{Typed, typed}
 use Rattle.number_lists.proofs.Lists.{Listed, listed}
 use Rattle.elements.proofs.Rows.{next_field}
 use Rattle.slots.specs.Flat.{flat_element, flat_field, flat_octets, flat_row, not_null, null_length, padded}
-use Rattle.slots.specs.Unflat.{slot, slots_for, slots_of, unflat_field, unflat_octets, unflat_row}
+use Rattle.slots.specs.Unflat.{slot, slots_of, unflat_field, unflat_octets, unflat_row}
 use Rattle.slots.proofs.Inverse.{field_behind}
 use Rattle.parts.specs.Parts.{part_at}
 use Rattle.questions.specs.Answer.{asked_slots, flat_asked}
@@ -133,16 +127,6 @@ module _ (s : List ℕ) (small : length s < 0x8000_0000_0000_0000) where
   row_shown zero (kind · row) (f ∷ fs) rest (h, hs) = rw (append_assoc (flat_field kind f) (flat_row row fs) rest) (field_shown kind f (flat_row row fs ++ rest) h)
   row_shown (suc n) (kind · row) (f ∷ fs) rest (h, hs) = rw (append_assoc (flat_field kind f) (flat_row row fs) rest, field_behind kind f (flat_row row fs ++ rest)) (row_shown n row fs rest hs)
 
-  -- ---- The code's answer, by the slots of one field
-
-  string_place : (nullable : Bool) (at len : ℕ) → part_at s (place at len) ≡ octets_in s (unflat_octets nullable at len)
-  string_place false at len = refl
-  string_place true at len = by (eqb len null_length) refl
-    where
-      by : (t : Bool) → eqb len null_length ≡ t → part_at s (place at len) ≡ octets_in s (cond t none (some (place at len)))
-      by true e = let l = eqb-true len null_length e in beyond (place at len) (omega (arith, l))
-      by false e = refl
-
   pub empty : part_at s (place 0 0) ≡ []
   empty = by (outside (place 0 0) s)
     where
@@ -150,80 +134,29 @@ module _ (s : List ℕ) (small : length s < 0x8000_0000_0000_0000) where
       by true = refl
       by false = refl
 
-  module _ (k : FieldKind) (slots : List ℕ) where
-    abbrev Shown : Place → Type 0
-    Shown r = part_at s r ≡ octets_in s (octets_of_slots (kind_said k) slots)
-
-    pub shown_string : (form : Form) (nullable : Bool) (at len : ℕ) → k ≡ String form nullable → at ≡ slot slots 0 → len ≡ slot slots 1 → Shown (place at len)
-    shown_string form nullable at len e i j = rw (e, i, j) (string_place nullable (slot slots 0) (slot slots 1))
-
-    pub shown_list : (l : ListKind) (at len : ℕ) → k ≡ ListOf l → at ≡ slot slots 1 → len ≡ slot slots 2 → Shown (place at len)
-    shown_list l at len e i j = rw (e, i, j)
-
-    pub shown_chunk : (at len : ℕ) → k ≡ Chunk → at ≡ slot slots 12 → len ≡ slot slots 13 → Shown (place at len)
-    shown_chunk at len e i j = rw (e, i, j)
-
-    pub shown_none : OneOf (0 ∷ 1 ∷ 2 ∷ 3 ∷ 5 ∷ []) (tag_of the_type k) → Shown (place 0 0)
-    shown_none = by k
-      where
-        by : (k : FieldKind) → OneOf (0 ∷ 1 ∷ 2 ∷ 3 ∷ 5 ∷ []) (tag_of the_type k) → part_at s (place 0 0) ≡ octets_in s (octets_of_slots (kind_said k) slots)
-        by Nothing h = empty
-        by (Number width) h = empty
-        by Active h = empty
-        by Signed h = empty
-        by (String form nullable) h = absurd (miss (0 ∷ 1 ∷ 2 ∷ 3 ∷ 5 ∷ []) 4 tt h)
-        by (Specification admits_none) h = empty
-        by (ListOf l) h = absurd (miss (0 ∷ 1 ∷ 2 ∷ 3 ∷ 5 ∷ []) 6 tt h)
-        by Chunk h = absurd (miss (0 ∷ 1 ∷ 2 ∷ 3 ∷ 5 ∷ []) 7 tt h)
-
 -- ---- The fields in turn
 
-some_slots : (k : Kind) → slots_of k ≡ 0 → ⊥
-some_slots (unsigned n most) e = omega (arith, e)
-some_slots (signed n) e = omega (arith, e)
-some_slots (string form nullable) e = omega (arith, e)
-some_slots (specification admits_none) e = omega (arith, e)
-some_slots (list rule row) e = omega (arith, e)
-some_slots chunk e = omega (arith, e)
+-- The place at an index of a row, by the slots that are left.
+abbrev pub Left : List FieldKind → List ℕ → ℕ → Option Place
+Left fields slots n = place_in n (unflat_row (row_from fields) slots)
 
--- The places in what is left of a row, from the slots that are left.
-abbrev pub Left : List ℕ → List ℕ → ℕ → ℕ → ℕ → Option Place
-Left fields slots i at n = place_in n (unflat_row (row_by kind_of (drop i fields)) (drop at slots))
+module _ (fields : List FieldKind) (slots : List ℕ) (i n : ℕ) (d : FieldKind) (l : i < length fields) where
+  abbrev kind : Kind
+  kind = kind_of (get_or fields i d)
 
-module _ (fields slots : List ℕ) (i at n m : ℕ) (l : i < length fields) (e : m ≡ slots_for (kind_of (get_or fields i 0))) where
-  by_kind : (P : Option Place → Type 0) → ((o : Option Kind) → m ≡ slots_for o → P (place_in n (unflat_row (front o (row_by kind_of (drop (i + 1) fields))) (drop at slots)))) → P (Left fields slots i at n)
-  by_kind P f = rw (next_field kind_of fields slots i l) (f (kind_of (get_or fields i 0)) e)
-
-  -- What is no field is passed over.
-  pub none_passed : m ≡ 0 → Left fields slots (i + 1) at n ≡ Left fields slots i at n
-  none_passed z = by_kind (λ x. Left fields slots (i + 1) at n ≡ x) by
+  pub field_passed : (n ≡ 0 → ⊥) → Left (drop (i + 1) fields) (drop (slots_of (kind_of (get_or fields i d))) slots) (n - 1) ≡ Left (drop i fields) slots n
+  field_passed y = rw (next_field fields slots d i 0 l) (next n (unflat_field kind slots) (unflat_row (row_from (drop (i + 1) fields)) (drop (slots_of kind) slots)) y)
     where
-      by : (o : Option Kind) → m ≡ slots_for o → Left fields slots (i + 1) at n ≡ place_in n (unflat_row (front o (row_by kind_of (drop (i + 1) fields))) (drop at slots))
-      by none j = refl
-      by (some k) j = absurd (some_slots k (sym j ∙ z))
+      next : (n : ℕ) (f : Field Place) (fs : List (Field Place)) → (n ≡ 0 → ⊥) → place_in (n - 1) fs ≡ place_in n (f ∷ fs)
+      next zero f fs y = absurd (y refl)
+      next (suc n) f fs y = let k : suc n - 1 ≡ n = omega arith in rw k
 
-  module _ (z : m ≡ 0 → ⊥) where
-    pub field_passed : (n ≡ 0 → ⊥) → Left fields slots (i + 1) (at + m) (n - 1) ≡ Left fields slots i at n
-    field_passed y = by_kind (λ x. Left fields slots (i + 1) (at + m) (n - 1) ≡ x) by
-      where
-        next : (n : ℕ) (f : Field Place) (fs : List (Field Place)) → (n ≡ 0 → ⊥) → place_in (n - 1) fs ≡ place_in n (f ∷ fs)
-        next zero f fs y = absurd (y refl)
-        next (suc n) f fs y = let k : suc n - 1 ≡ n = omega arith in rw k
+  pub field_reached : n ≡ 0 → octets_of_slots (kind_of (get_or fields i d)) slots ≡ Left (drop i fields) slots n
+  field_reached y = rw (next_field fields slots d i 0 l, y)
 
-        by : (o : Option Kind) → m ≡ slots_for o → Left fields slots (i + 1) (at + m) (n - 1) ≡ place_in n (unflat_row (front o (row_by kind_of (drop (i + 1) fields))) (drop at slots))
-        by none j = absurd (z j)
-        by (some k) j = rw (j, ← drop-drop (slots_of k) at slots) (next n (unflat_field k (drop at slots)) (unflat_row (row_by kind_of (drop (i + 1) fields)) (drop (slots_of k) (drop at slots))) y)
-
-    pub field_reached : n ≡ 0 → octets_of_slots (kind_of (get_or fields i 0)) (drop at slots) ≡ Left fields slots i at n
-    field_reached y = rw (next_field kind_of fields slots i l, y) (by (kind_of (get_or fields i 0)) e)
-      where
-        by : (o : Option Kind) → m ≡ slots_for o → octets_of_slots o (drop at slots) ≡ place_in 0 (unflat_row (front o (row_by kind_of (drop (i + 1) fields))) (drop at slots))
-        by none j = absurd (z j)
-        by (some k) j = refl
-
-pub none_left : (fields slots : List ℕ) (i at n : ℕ) → i ≡ length fields → none ≡ Left fields slots i at n
-unfolding row_by
-none_left fields slots i at n l = rw (l, drop-length fields)
+pub none_left : (fields : List FieldKind) (slots : List ℕ) (i n : ℕ) → i ≡ length fields → none ≡ Left (drop i fields) slots n
+unfolding row_from
+none_left fields slots i n l = rw (l, drop-length fields)
 
 -- ---- An element that was asked for
 
@@ -248,14 +181,6 @@ module _ (row : Row) (s : List ℕ) (count : ℕ) (p : Place) (index field : ℕ
       by (refused n q) h = tt
 
   module _ (r : ℕ) (e : r ≡ number_of asked_for) where
-    -- A refusal has no part.
-    pub refused_part : (r ≡ 0 → ⊥) → [] ≡ field_part field s asked_for
-    refused_part z = by asked_for e
-      where
-        by : (a : Asked (List (Field Place))) → r ≡ number_of a → [] ≡ field_part field s a
-        by (found fs) i = absurd (z i)
-        by (refusal n) i = refl
-
     pub shown_part : Bytes s → length s < 0x8000_0000_0000_0000 → r ≡ 0 → (old slots b : List ℕ) → slots ≡ asked_slots old (flat_asked row asked_for) → b ≡ octets_in s (place_in field (unflat_row row slots)) → b ≡ field_part field s asked_for
     unfolding flat_element padded
     shown_part bytes small z old slots b i j = by asked_for refl e i
