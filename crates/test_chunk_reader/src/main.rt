@@ -67,9 +67,9 @@ fn said(found: Found) {
         Found::Ready => word(b" ready"),
         Found::Message(place) => decimal(place.len as u64),
         Found::Done => word(b" done"),
-        Found::Refused(number) => {
+        Found::Refused(refusal) => {
             word(b" refused");
-            decimal(number as u64)
+            decimal(refusal.number() as u64)
         }
     };
 }

@@ -7,8 +7,7 @@ use lib.ListN.{length, take}
 use Rattle.rules.proofs.Heads.{Head, head}
 use Rattle.rules.specs.Exactness.{frame_length}
 use Rattle.rules.specs.Reading.{read_frame}
-use Rattle.frame_reading.specs.Answer.{told}
-use Rattle.frame_reading.specs.declared.reading.FrameRead.TheVariants.{Frame}
+use Rattle.frame_reading.specs.Answer.{Frame, told}
 use Rattle.frame_reading.proofs.Told.{frame_told}
 use Rattle.test_frames.specs.Answers.{needs, cuts_needing}
 

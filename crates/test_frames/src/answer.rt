@@ -4,31 +4,28 @@ ghost use Rattle.rules.specs.Exactness.{frame_length};
 ghost use Rattle.rules.specs.Reading.{read_frame};
 ghost use Rattle.test_frames.specs.Answers.{used, needs, cuts_needing};
 
-use frame_reading::FrameRead;
+use frame_reading::ReadError;
 
 pub fn run(name: &[u8], limit: u32, bytes: &[u8]) {
     test_text::word(name);
     let mut slots = [0u64; 24];
     match frame_reading::read(bytes, limit, &mut slots) {
-        FrameRead::Frame => {
+        Ok(()) => {
             accepted(bytes, slots);
             cuts(name, limit, bytes);
         }
-        FrameRead::Short { needed } => short(needed),
-        FrameRead::Refused { number, place } => refused(number, place),
+        Err(ReadError::Short { needed }) => short(needed),
+        Err(ReadError::Refused(fault)) => refused(fault.refusal.number(), fault.at),
     }
 }
 
 // With one byte more behind the vector: printed if that is a frame. A byte behind a frame plays no part.
 pub fn longer(name: &[u8], limit: u32, bytes: &[u8]) {
     let mut slots = [0u64; 24];
-    match frame_reading::read(bytes, limit, &mut slots) {
-        FrameRead::Frame => {
-            test_text::word(name);
-            test_text::word(b" longer");
-            accepted(bytes, slots);
-        }
-        FrameRead::Short { .. } | FrameRead::Refused { .. } => {}
+    if let Ok(()) = frame_reading::read(bytes, limit, &mut slots) {
+        test_text::word(name);
+        test_text::word(b" longer");
+        accepted(bytes, slots);
     }
 }
 
@@ -116,8 +113,7 @@ fn short_of(limit: u32, cut: &[u8], n: u64) -> u64
 {
     let mut slots = [0u64; 24];
     match frame_reading::read(cut, limit, &mut slots) {
-        FrameRead::Frame => 0,
-        FrameRead::Short { needed } => u64::from(needed == n),
-        FrameRead::Refused { .. } => 0,
+        Err(ReadError::Short { needed }) => u64::from(needed == n),
+        Ok(()) | Err(ReadError::Refused(_)) => 0,
     }
 }

@@ -1,6 +1,6 @@
 // The answers on standard output, a line each.
-use credit_receiving::Received;
-use frame_reading::FrameRead;
+use credit_receiving::ReceiveError;
+use frame_reading::ReadError;
 use protocol::Refusal;
 use test_text::{decimal, line, word};
 
@@ -11,18 +11,18 @@ pub fn change(answer: Result<(), Refusal>) {
     }
 }
 
-pub fn received(answer: Received) {
+pub fn received(answer: Result<(), ReceiveError>) {
     match answer {
-        Received::Reading(reading) => read(reading),
-        Received::Refused(refusal) => refused(refusal),
+        Ok(()) => accepted(),
+        Err(ReceiveError::Read(error)) => unread(error),
+        Err(ReceiveError::Ledger(refusal)) => refused(refusal),
     }
 }
 
-fn read(reading: FrameRead) {
-    match reading {
-        FrameRead::Frame => accepted(),
-        FrameRead::Short { needed } => short(needed),
-        FrameRead::Refused { number, place } => misread(number, place),
+fn unread(error: ReadError) {
+    match error {
+        ReadError::Short { needed } => short(needed),
+        ReadError::Refused(fault) => misread(fault.refusal, fault.at),
     }
 }
 
@@ -59,9 +59,9 @@ fn short(needed: u64) {
     line();
 }
 
-fn misread(number: u8, place: usize) {
+fn misread(refusal: Refusal, place: usize) {
     word(b"refused");
-    decimal(number as u64);
+    decimal(refusal.number() as u64);
     word(b" at");
     decimal(place as u64);
     line();

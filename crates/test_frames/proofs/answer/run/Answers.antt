@@ -3,7 +3,7 @@ use Rattle.test_frames.proofs.Cuts.{whole}
 use Rattle.test_frames.proofs.answer.run.Goals as goal
 
 pub accepted-requires : goal.accepted-requires
-accepted-requires c = whole _ _ c.in-Frame.ensures.value
+accepted-requires c = whole _ _ c.in-Ok.ensures.value
 
 pub cuts-requires : goal.cuts-requires
-cuts-requires c = whole _ _ c.in-Frame.ensures.value
+cuts-requires c = whole _ _ c.in-Ok.ensures.value
