@@ -18,7 +18,6 @@ use Rattle.protocol.specs.Fields.{bytes_at}
 use Rattle.protocol.specs.declared.place.Place.{Place}
 use Rattle.fields.specs.Passes.{behind, copied_behind, put_list}
 use Rattle.frame_head.specs.Size.{Fits}
-use Rattle.fast_writing.specs.Puts.{halves}
 
 -- What pieces make together.
 abbrev pub joined : List (List ℕ) → List ℕ
@@ -60,10 +59,6 @@ text_next src o q n m p h l i j =
 pub list_next : (src o q : List ℕ) (n m count : ℕ) (p : Place) (h : Holds) → p.at + p.len ≤ length src → holds o n ≡ h → holds q m ≡ put_list src count p (holds o n) → holds q m ≡ behind (bytes_at src p) (behind (digits 4 count) h)
 list_next src o q n m count p h l i j =
     part_next src (behind (digits 4 count) (holds o n)).bytes q (behind (digits 4 count) (holds o n)).next m p.at p.len (behind (digits 4 count) h) l (ap (behind (digits 4 count)) i) j
-
--- Two halves of a number.
-pub eight_next : (o q : List ℕ) (n m v : ℕ) (h : Holds) → holds o n ≡ h → holds q m ≡ halves v (holds o n) → holds q m ≡ halves v h
-eight_next o q n m v h i j = j ∙ ap (halves v) i
 
 -- A piece in front of others.
 pub part_front : (p b : List ℕ) (m k : ℕ) → length p ≡ m → length b ≡ k → length (p ++ b) ≡ m + k

@@ -37,7 +37,6 @@ use Rattle.slots.specs.Flat.{null_length}
 use Rattle.slots.specs.Unflat.{slot, unflat_octets, unflat_offset, unflat_row}
 use Rattle.fast_writing.specs.Answer.{listed}
 use Rattle.fast_writing.proofs.Chain.{joined, part_front, number_front, Encodes}
-use Rattle.fast_writing.proofs.Eights.{eight}
 
 -- ---- Fields
 
@@ -84,20 +83,14 @@ position_fits : (x : ℕ) → x < 256 ^ 8 → write_offset false (Offset x) ≡ 
 unfolding write_offset
 position_fits x h = rw (lt-leb (256 ^ 8) x h)
 
-pub offset_written : (type v : ℕ) → type ≡ 4 → v < 0x1_0000_0000_0000_0000 → write_offset false (unflat_offset false type v) ≡ wrote (digits 2 4 ++ (digits 4 (v / 0x1_0000_0000) ++ digits 4 (v % 0x1_0000_0000)))
-offset_written type v e h =
-    ap (λ (t : ℕ). write_offset false (unflat_offset false t v)) e
-    ∙ position_fits v h
-    ∙ ap (λ (b : List ℕ). wrote (digits 2 4 ++ b)) (eight v)
+pub offset_written : (type v : ℕ) → type ≡ 4 → v < 0x1_0000_0000_0000_0000 → write_offset false (unflat_offset false type v) ≡ wrote (digits 2 4 ++ digits 8 v)
+offset_written type v e h = ap (λ (t : ℕ). write_offset false (unflat_offset false t v)) e ∙ position_fits v h
 
 -- ---- Rows
 
 -- Two pieces of one field in front of the others.
 two_in_front : (a b : List ℕ) (e f : Encoding) (bs : List (List ℕ)) → e ≡ wrote (a ++ b) → f ≡ wrote (joined bs) → followed e f ≡ wrote (joined (a ∷ b ∷ bs))
 two_in_front a b e f bs i j = rw (i, j, append_assoc a b (joined bs))
-
-three_in_front : (a b c : List ℕ) (e f : Encoding) (bs : List (List ℕ)) → e ≡ wrote (a ++ (b ++ c)) → f ≡ wrote (joined bs) → followed e f ≡ wrote (joined (a ∷ b ∷ c ∷ bs))
-three_in_front a b c e f bs i j = rw (i, j, append_assoc a (b ++ c) (joined bs), append_assoc b c (joined bs))
 
 one_in_front : (a : List ℕ) (e f : Encoding) (bs : List (List ℕ)) → e ≡ wrote a → f ≡ wrote (joined bs) → followed e f ≡ wrote (joined (a ∷ bs))
 one_in_front a e f bs i j = rw (i, j)
@@ -176,8 +169,7 @@ module _ (s src : List ℕ) where
 
     abbrev behind_stream : List (List ℕ)
     behind_stream =
-        digits 2 4 ∷ digits 4 (slot s 7 / 0x1_0000_0000) ∷ digits 4 (slot s 7 % 0x1_0000_0000) ∷ digits 2 (slot s 8)
-        ∷ digits 4 (slot s 9) ∷ properties ∷ []
+        digits 2 4 ∷ digits 8 (slot s 7) ∷ digits 2 (slot s 8) ∷ digits 4 (slot s 9) ∷ properties ∷ []
 
     abbrev subscribed : List (List ℕ)
     subscribed = digits 4 (slot s 2) ∷ digits 1 (slot s 3) ∷ digits 2 (slot s 5) ∷ stream ∷ behind_stream
@@ -190,13 +182,13 @@ module _ (s src : List ℕ) where
           (one_in_front (digits 4 (slot s 2)) _ _ (digits 1 (slot s 3) ∷ digits 2 (slot s 5) ∷ stream ∷ behind_stream) (fits 4 0xffff_ffff (slot s 2) (omega arith) a)
           (one_in_front (digits 1 (slot s 3)) _ _ (digits 2 (slot s 5) ∷ stream ∷ behind_stream) (fits 1 0xff (slot s 3) (omega arith) b)
           (two_in_front (digits 2 (slot s 5)) stream _ _ behind_stream (admitted_bytes Text src (slot s 4) (slot s 5) false t)
-          (three_in_front (digits 2 4) (digits 4 (slot s 7 / 0x1_0000_0000)) (digits 4 (slot s 7 % 0x1_0000_0000)) _ _ (digits 2 (slot s 8) ∷ digits 4 (slot s 9) ∷ properties ∷ []) (offset_written (slot s 6) (slot s 7) type v)
+          (two_in_front (digits 2 4) (digits 8 (slot s 7)) _ _ (digits 2 (slot s 8) ∷ digits 4 (slot s 9) ∷ properties ∷ []) (offset_written (slot s 6) (slot s 7) type v)
           (one_in_front (digits 2 (slot s 8)) _ _ (digits 4 (slot s 9) ∷ properties ∷ []) (fits 2 0xffff (slot s 8) (omega arith) w)
           (two_in_front (digits 4 (slot s 9)) properties _ _ [] p.is refl))))))
 
       pub subscribe_row : Encodes (row_written 0x0007 s src) subscribed (27 + slot s 5 + slot s 11)
       subscribe_row =
-          let l : length (joined subscribed) ≡ 4 + (1 + (2 + (slot s 5 + (2 + (4 + (4 + (2 + (4 + (slot s 11 + 0))))))))) = number_front 4 (slot s 2) _ _ (number_front 1 (slot s 3) _ _ (number_front 2 (slot s 5) _ _ (part_front stream _ (slot s 5) _ (part_length [] 0 src (slot s 4) (slot s 5) t.inside) (number_front 2 4 _ _ (number_front 4 (slot s 7 / 0x1_0000_0000) _ _ (number_front 4 (slot s 7 % 0x1_0000_0000) _ _ (number_front 2 (slot s 8) _ _ (number_front 4 (slot s 9) _ _ (part_front properties [] (slot s 11) 0 (part_length [] 0 src (slot s 10) (slot s 11) p.inside) refl))))))))) in
+          let l : length (joined subscribed) ≡ 4 + (1 + (2 + (slot s 5 + (2 + (8 + (2 + (4 + (slot s 11 + 0)))))))) = number_front 4 (slot s 2) _ _ (number_front 1 (slot s 3) _ _ (number_front 2 (slot s 5) _ _ (part_front stream _ (slot s 5) _ (part_length [] 0 src (slot s 4) (slot s 5) t.inside) (number_front 2 4 _ _ (number_front 8 (slot s 7) _ _ (number_front 2 (slot s 8) _ _ (number_front 4 (slot s 9) _ _ (part_front properties [] (slot s 11) 0 (part_length [] 0 src (slot s 10) (slot s 11) p.inside) refl)))))))) in
           record { is = subscribe_written; sized = omega (arith, l) }
 
 -- The same by the places that the code makes of slots.
@@ -204,7 +196,7 @@ module _ (s src : List ℕ) (p : Place) (e : p ≡ place (slot s 4) (slot s 5)) 
   pub declare_at : (q : Place) → q ≡ place (slot s 6) (slot s 7) → Admitted Reference src p.at p.len → Admitted Text src q.at q.len → slot s 2 ≤ 0xffff_ffff → slot s 3 ≤ 0xff → Encodes (row_written 0x0001 s src) (digits 4 (slot s 2) ∷ digits 1 (slot s 3) ∷ digits 2 p.len ∷ bytes_at src p ∷ digits 2 q.len ∷ bytes_at src q ∷ []) (13 + p.len + q.len)
   declare_at q f t u a b = rw (e, f) (declare_row s src (rw e at t) (rw f at u) a b)
 
-  pub subscribe_at : (l : Elements) → list_field l ≡ elements (slot s 9) (place (slot s 10) (slot s 11)) → Admitted Text src p.at p.len → ListWritten (list plain (element_row Property)) src (slot s 9) (slot s 10) (slot s 11) → slot s 2 ≤ 0xffff_ffff → slot s 3 ≤ 0xff → slot s 6 ≡ 4 → slot s 7 < 0x1_0000_0000_0000_0000 → slot s 8 ≤ 0xffff → Encodes (row_written 0x0007 s src) (digits 4 (slot s 2) ∷ digits 1 (slot s 3) ∷ digits 2 p.len ∷ bytes_at src p ∷ digits 2 4 ∷ digits 4 (slot s 7 / 0x1_0000_0000) ∷ digits 4 (slot s 7 % 0x1_0000_0000) ∷ digits 2 (slot s 8) ∷ digits 4 l.count ∷ bytes_at src l.place ∷ []) (27 + p.len + l.place.len)
+  pub subscribe_at : (l : Elements) → list_field l ≡ elements (slot s 9) (place (slot s 10) (slot s 11)) → Admitted Text src p.at p.len → ListWritten (list plain (element_row Property)) src (slot s 9) (slot s 10) (slot s 11) → slot s 2 ≤ 0xffff_ffff → slot s 3 ≤ 0xff → slot s 6 ≡ 4 → slot s 7 < 0x1_0000_0000_0000_0000 → slot s 8 ≤ 0xffff → Encodes (row_written 0x0007 s src) (digits 4 (slot s 2) ∷ digits 1 (slot s 3) ∷ digits 2 p.len ∷ bytes_at src p ∷ digits 2 4 ∷ digits 8 (slot s 7) ∷ digits 2 (slot s 8) ∷ digits 4 l.count ∷ bytes_at src l.place ∷ []) (27 + p.len + l.place.len)
   subscribe_at l f t w a b type v c =
       let same = same_list l (slot s 9) (slot s 10) (slot s 11) f in
       rw (e, same.0, same.1) (subscribe_row s src (rw e at t) w a b type v c)

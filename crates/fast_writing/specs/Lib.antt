@@ -1,3 +1,2 @@
 -- Writing the most frequent frames.
 pub mod Answer
-pub mod Puts

@@ -2,7 +2,6 @@
 ghost use Rattle.std.specs.Prelude.{[]};
 ghost use Rattle.fast_writing.specs.Answer.{WritesAs, write_row_of};
 
-use crate::puts::put_eight;
 use byte_strings::is_string;
 use fields::{is_number, put_string};
 use frame_head::{fits, put_head};
@@ -54,7 +53,7 @@ pub fn subscribe(
     let next = wire::put_number(out, next, Width::One, subscription_id);
     let next = put_string(out, next, src, Form::Text, stream);
     let next = wire::put_number(out, next, Width::Two, 4);
-    let next = put_eight(out, next, value);
+    let next = wire::put_number(out, next, Width::Eight, value);
     let next = wire::put_number(out, next, Width::Two, credit);
     put_list(out, next, src, properties);
     Some(Ok(size as u64 + 4))

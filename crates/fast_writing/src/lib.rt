@@ -3,7 +3,6 @@
 
 mod consuming;
 mod publishing;
-mod puts;
 mod writing;
 
 pub use writing::write;
