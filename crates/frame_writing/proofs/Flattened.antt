@@ -1,5 +1,5 @@
 -- What is written of the whole frame that stands in slots. Assumes nothing.
-use mathlib.Core.Path.{◌≡◌, refl, ◌∙◌, sym, ap}
+use mathlib.Core.Path.{◌≡◌, ◌∙◌, sym, ap}
 use mathlib.Core.List.{List}
 use mathlib.Core.Logic.{◌⊎◌, inl, inr}
 use Prim.Native.Nat.{ℕ}
@@ -10,12 +10,10 @@ use Rattle.std.proofs.lemmas.List.{take_all, length-drop}
 use Rattle.std.specs.Borrow.{Bor}
 use Rattle.wire.specs.Buffer.{Holds}
 use Rattle.protocol.specs.Decision.{Decision, layout, unlisted_key, unlisted_version, decide, decision_of}
-use Rattle.protocol.specs.Fields.{Fields}
 use Rattle.protocol.specs.Kinds.{Row}
 use Rattle.protocol.specs.Refusals.{number_of}
 use Rattle.protocol.specs.Table.{row_of}
 use Rattle.protocol.specs.declared.kind.FieldKind.{FieldKind}
-use Rattle.protocol.specs.declared.place.Place.{Place}
 use Rattle.protocol.specs.declared.refusal.Refusal.{Refusal}
 use Rattle.protocol.specs.declared.refusal.Refusal.TheVariants.{UnknownKey, UnknownVersion}
 use Rattle.rules.specs.Writing.{Written, unwritten, write_row, write_frame, write_decided}

@@ -9,8 +9,8 @@ use lib.Dec.{leb, ltb}
 use lib.IntN.{ℤ, pos, negsuc}
 use lib.ListN.{get_or}
 use borrow.Author.Tests.{lt-ltb, le-ltb, ltb-true, leb-true, leb-false}
-use mir.Syntax.{Width, w8, w32}
-use mir.Val.{SFits, hbits}
+use mir.Syntax.{Width}
+use mir.Val.{hbits}
 use Rattle.std.specs.Prelude.{Result, Ok, Err, OkIff, FitsSigned, is_ok}
 use Rattle.wire.specs.Signed.{signed, unsigned, Signed}
 use Rattle.wire.proofs.TwosComplement.{twos_complement}

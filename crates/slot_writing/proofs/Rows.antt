@@ -1,21 +1,21 @@
 -- The fields of a layout are written one after another, each from the slots behind those of the fields in front of it. Assumes nothing.
 use mathlib.Core.Path.{◌≡◌, refl, ◌∙◌, sym, ap}
 use mathlib.Core.Bool.{Bool, true, false, cond}
-use mathlib.Core.List.{List, [], ◌∷◌, ◌++◌}
+use mathlib.Core.List.{List, ◌∷◌, ◌++◌}
 use Prim.Native.Nat.{ℕ, ◌+◌, ◌<◌, ◌≤◌, min}
 use native.Mathlib.Omega.{arith}
 use native.Mathlib.Numerals.{add-one}
 use lib.Dec.{ltb}
 use lib.ListN.{length, get_or, drop, length-append}
 use lib.Seq.{drop-cons, drop-length}
-use borrow.Author.Tests.{lt-ltb, le-ltb, ltb-true, ltb-false}
+use borrow.Author.Tests.{le-ltb, ltb-true, ltb-false}
 use Rattle.std.specs.Prelude.{Ok, Err}
 use Rattle.wire.specs.Buffer.{Holds}
 use Rattle.protocol.specs.Kinds.{Kind}
 use Rattle.protocol.specs.Layouts.{kind_of, row_from}
 use Rattle.protocol.specs.declared.kind.FieldKind.{FieldKind}
 use Rattle.protocol.specs.declared.refusal.Refusal.{Refusal}
-use Rattle.rules.specs.Writing.{Encoding, Written, wrote, refuse, followed, write_field, write_row}
+use Rattle.rules.specs.Writing.{Encoding, wrote, refuse, followed, write_field, write_row}
 use Rattle.fields.specs.Passes.{length_told, measured, measured_from, bound, capped, put_field, put_row}
 use Rattle.slots.specs.Unflat.{slots_of, unflat_field, unflat_row}
 

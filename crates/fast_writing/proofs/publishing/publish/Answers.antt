@@ -1,5 +1,5 @@
 -- The checks are those of the row.
-use Rattle.std.proofs.Common.{◌≡◌, List, ℕ, sym, ap, ◌∙◌}
+use Rattle.std.proofs.Common.{sym, ap, ◌∙◌}
 use borrow.Author.Tests.{leb-true}
 use Rattle.protocol.specs.declared.kind.Element.TheVariants.{Message}
 use Rattle.rules.specs.Writing.{Encoding, write_encoded}

@@ -1,5 +1,4 @@
 -- The id and the list are put behind the head.
-use Rattle.std.proofs.Common.{◌∷◌, [], ◌++◌, length, take, drop, refl, sym, ◌∙◌, arith}
 use Rattle.fast_writing.proofs.Chain.{frame_put, put_next, list_next}
 use Rattle.fast_writing.proofs.Encoded.{listed_row}
 use Rattle.fast_writing.proofs.publishing.put_listed.Goals as goal

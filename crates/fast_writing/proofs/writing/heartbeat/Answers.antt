@@ -1,5 +1,5 @@
 -- The head alone.
-use Rattle.std.proofs.Common.{[], refl}
+use Rattle.std.proofs.Common.{[]}
 use Rattle.fast_writing.proofs.Chain.{frame_put}
 use Rattle.fast_writing.proofs.Encoded.{heartbeat_row}
 use Rattle.fast_writing.proofs.writing.heartbeat.Goals as goal

@@ -1,5 +1,5 @@
 -- A chunk that no check refuses is written as its header and its data.
-use Rattle.std.proofs.Common.{◌+◌, ◌≤◌, length, get_or, sym, refl, arith}
+use Rattle.std.proofs.Common.{get_or, refl, arith}
 use Rattle.protocol.specs.Fields.{place}
 use Rattle.slots.specs.Unflat.{unflat_header}
 use Rattle.slot_writing.proofs.ChunkChecks.{chunk_length, written}

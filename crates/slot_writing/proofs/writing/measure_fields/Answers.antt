@@ -1,9 +1,7 @@
 -- One field, and those behind it.
-use Rattle.std.proofs.Common.{◌≡◌, ◌∙◌, sym, arith, Err}
+use Rattle.std.proofs.Common.{◌∙◌, arith}
 use Rattle.std.proofs.lemmas.Grind.{common_steps}
-use Rattle.rules.specs.Writing.{Written}
-use Rattle.fields.specs.Passes.{length_told, measured_from}
-use Rattle.slot_writing.proofs.Rows.{write_slots, measures_next, measure_refused, all_measured, capped_min}
+use Rattle.slot_writing.proofs.Rows.{measures_next, measure_refused, all_measured, capped_min}
 use Rattle.slot_writing.proofs.writing.measure_fields.Goals as goal
 
 pub returns-in_err-measure_field : goal.returns-in_err-measure_field
