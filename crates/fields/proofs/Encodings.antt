@@ -7,14 +7,10 @@ use native.Mathlib.Omega.{arith}
 use lib.IntN.{ℤ, pos, negsuc}
 use lib.ListN.{length, length-append}
 use borrow.Author.Tests.{lt-ltb, le-ltb, lt-leb}
-use Rattle.std.specs.Prelude.{Ok, Err}
+use Rattle.std.specs.Prelude.{Ok}
 use Rattle.wire.specs.Integers.{digits}
 use Rattle.wire.proofs.Widths.{integers}
-use Rattle.protocol.specs.Refusals.{number_of, value_not_admitted}
-use Rattle.protocol.specs.declared.refusal.Refusal.{Refusal}
-use Rattle.protocol.proofs.Refused.{some_number}
-use Rattle.rules.specs.Writing.{Encoding, wrote, refuse, fits_signed, write_unsigned}
-use Rattle.byte_strings.specs.Stops.{refusal_of}
+use Rattle.rules.specs.Writing.{wrote, fits_signed, write_unsigned}
 use Rattle.fields.specs.Passes.{length_told, measured}
 use mir.Syntax.{Width}
 use mir.Val.{SFits, hbits}
@@ -27,9 +23,6 @@ pair_size n m x y = rw (length-append (digits n x) (digits m y), digits_size n x
 
 -- A number.
 module _ (n most x : ℕ) where
-  pub too_wide : most < x → write_unsigned n most x ≡ refuse value_not_admitted
-  too_wide h = rw (lt-ltb _ _ h)
-
   pub fits : most < 256 ^ n → x ≤ most → write_unsigned n most x ≡ wrote (digits n x)
   fits h l = rw (le-ltb _ _ l, lt-leb (256 ^ n) x (omega arith))
 
@@ -40,12 +33,3 @@ module _ (n most x : ℕ) where
 pub signed_fits : (w : Width) (n : ℕ) (z : ℤ) → 2 ^ hbits w ≡ 256 ^ n / 2 → SFits w z → fits_signed n z ≡ true
 signed_fits w n (pos x) e f = lt-ltb x (256 ^ n / 2) (rw (← e) f.sfits)
 signed_fits w n (negsuc k) e f = lt-ltb k (256 ^ n / 2) (rw (← e) f.sfits)
-
--- By the answer of a check, and what follows from it.
-module _ (e : Encoding) where
-  pub measured_refused : (r : Refusal) → number_of r ≡ refusal_of e → length_told (Err r) ≡ measured e
-  measured_refused r i = by e i
-    where
-      by : (e : Encoding) → number_of r ≡ refusal_of e → length_told (Err r) ≡ measured e
-      by (wrote b) i = absurd (some_number r i)
-      by (refuse n) i = rw i

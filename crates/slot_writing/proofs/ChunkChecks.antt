@@ -7,7 +7,6 @@ use native.Mathlib.Omega.{arith}
 use lib.Dec.{eqb, ltb}
 use lib.ListN.{length, get_or, take, drop, length-append}
 use borrow.Author.Tests.{lt-ltb, le-ltb, ltb-false}
-use Rattle.wire.specs.Buffer.{holds, copied}
 use Rattle.wire.specs.Integers.{digits}
 use Rattle.wire.specs.Signed.{signed}
 use Rattle.wire.proofs.Splice.{part_length}
@@ -137,9 +136,6 @@ chunk_length src h p i =
     length-append (encode_header h) (bytes_at src p)
     ∙ ap (λ (n : ℕ). n + length (bytes_at src p)) (header_length h)
     ∙ ap (λ (n : ℕ). 48 + n) (part_length [] 0 src p.at p.len i)
-
-pub copied_from : (o q src : List ℕ) (n m a b x y : ℕ) → a ≡ x → b ≡ y → holds q m ≡ copied o n src a b → holds q m ≡ copied o n src x y
-copied_from o q src n m a b x y e f i = i ∙ (λ j. copied o n src (e j) (f j))
 
 -- A reader that does not answer `Err` tells no refusal.
 pub none_told : (r : Result ℕ Fault) → ((f : Fault) → r ≡ Err f → ⊥) → (told r).refused ≡ 0
