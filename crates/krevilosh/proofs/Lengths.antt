@@ -1,5 +1,5 @@
 -- A frame that is written has a Size of four bytes, so its length is bounded. Assumes nothing.
-use mathlib.Core.Path.{◌≡◌, refl, ◌∙◌, sym, ap, subst}
+use mathlib.Core.Path.{◌≡◌, refl, sym, subst}
 use mathlib.Core.Bool.{Bool, true, false, ◌||◌}
 use mathlib.Core.List.{List}
 use Prim.Native.Nat.{ℕ, ◌+◌, ◌≤◌, ◌<◌}
@@ -7,6 +7,7 @@ use native.Mathlib.Omega.{arith}
 use lib.Dec.{ltb}
 use lib.ListN.{length}
 use borrow.Author.Tests.{ltb-false}
+use Rattle.std.specs.Prelude.{Ok}
 use Rattle.protocol.specs.Decision.{Decision, layout, unlisted_key, unlisted_version, decide}
 use Rattle.protocol.specs.Fields.{Fields}
 use Rattle.protocol.specs.Table.{row_of}
@@ -16,10 +17,8 @@ use Rattle.rules.proofs.Listed.{differ}
 use Rattle.rules.specs.Reading.{over_limit}
 use Rattle.rules.specs.Writing.{Encoding, wrote, refuse, Writing, write_row, write_encoded, write_decided, write_frame}
 use Rattle.frame_writing.specs.Written.{writing_of}
-use Rattle.frame_writing.specs.declared.writing.Written.{Written}
-use Rattle.frame_writing.specs.declared.writing.Written.TheVariants.{Length, Refused}
 use Rattle.slots.specs.Unflat.{unflat_frame, write_flat}
-use Rattle.krevilosh.specs.Answer.{answer, LengthFits, written_answer}
+use Rattle.krevilosh.specs.Answer.{LengthFits}
 
 abbrev Fits : Writing → Type 0
 Fits w = LengthFits w.answer
@@ -47,20 +46,6 @@ length_fits : (s src : List ℕ) (limit : ℕ) (out : List ℕ) (w : Writing) �
 unfolding write_flat write_frame
 length_fits s src limit out w e = subst Fits (sym e) (decided_fits (decide (unflat_frame s).key (unflat_frame s).version) (unflat_frame s) src limit out)
 
-fits_above : (n : ℕ) → n ≤ 4294967299 → n < 0x100_0000_0000_0000
-fits_above n h = omega (arith, h)
-
--- What the host gets, by the case.
-module _ (v : Written) (o : List ℕ) (x : Writing) (e : writing_of v o ≡ x) where
-  as_told : (w : Written) → v ≡ w → writing_of w o ≡ x
-  as_told w i = ap (λ (y : Written). writing_of y o) (sym i) ∙ e
-
-  pub length_told : (n r : ℕ) → v ≡ Length n → r ≡ answer 0 n → (r ≡ written_answer x.answer) × (o ≡ x.out)
-  length_told n r i j = let f = as_told (Length n) i in (j ∙ ap (λ (y : Writing). written_answer y.answer) f, ap (λ (y : Writing). y.out) f)
-
-  pub refusal_told : (n : ℕ) → v ≡ Refused n → (n ≡ written_answer x.answer) × (o ≡ x.out)
-  refusal_told n i = let f = as_told (Refused n) i in (ap (λ (y : Writing). written_answer y.answer) f, ap (λ (y : Writing). y.out) f)
-
-  pub length_below : (n : ℕ) (s src : List ℕ) (limit : ℕ) (out : List ℕ) → v ≡ Length n → x ≡ write_flat s src limit out → n < 0x100_0000_0000_0000
-  length_below n s src limit out i j =
-      fits_above n (length_fits s src limit out (writing_of (Length n) o) (as_told (Length n) i ∙ j))
+-- So it fits the bits above the number.
+pub length_below : (s src : List ℕ) (limit : ℕ) (out : List ℕ) (n : ℕ) (o : List ℕ) → writing_of (Ok n) o ≡ write_flat s src limit out → n < 0x100_0000_0000_0000
+length_below s src limit out n o e = let h = length_fits s src limit out (writing_of (Ok n) o) e in omega (arith, h)

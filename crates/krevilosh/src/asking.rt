@@ -5,6 +5,8 @@ ghost use Rattle.questions.specs.Answer.{asked_slots};
 ghost use Rattle.questions.specs.Questions.{number_of};
 ghost use Rattle.slot_questions.specs.Asked.{ask_element, ask_message, shape_of};
 
+use crate::refusal_number;
+
 // The element at an index of a list, given by its count and the place of its elements in the source.
 pub fn krevilosh_element(
     shape: u8,
@@ -18,7 +20,7 @@ pub fn krevilosh_element(
     ensures value { result ≡ number_of (ask_element (shape_of shape) source.now count (place at length) index) }
     ensures element_after { element.new ≡ asked_slots element.old (ask_element (shape_of shape) source.now count (place at length) index) }
 {
-    slot_questions::element(shape, source, count, at, length, index, element)
+    refusal_number(slot_questions::element(shape, source, count, at, length, index, element))
 }
 
 // The message at an index of the chunk in a flat Deliver.
@@ -31,5 +33,5 @@ pub fn krevilosh_message(
     ensures value { result ≡ number_of (ask_message frame.now source.now index) }
     ensures message_after { message.new ≡ asked_slots message.old (ask_message frame.now source.now index) }
 {
-    slot_questions::message(frame, source, index, message)
+    refusal_number(slot_questions::message(frame, source, index, message))
 }

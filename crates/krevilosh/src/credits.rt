@@ -6,7 +6,7 @@ ghost use Rattle.credit_ledger.specs.Numbers.{credit_refusal};
 ghost use Rattle.credit_ledger.specs.Step.{answer, after};
 ghost use Rattle.krevilosh.specs.Answer.{refusal_answer};
 
-use crate::changes::changed;
+use crate::refusal_number;
 
 // Closes all ids, whatever the ledger held.
 pub fn krevilosh_credit_empty(credits: &mut [u32; 257])
@@ -19,19 +19,19 @@ pub fn krevilosh_credit_open(credits: &mut [u32; 257], id: u8, balance: u16) -> 
     ensures value { result ≡ refusal_answer (credit_refusal (answer credits.old (opening id balance))) }
     ensures credits_after { credits.new ≡ after credits.old (opening id balance) }
 {
-    changed(credit_ledger::open(credits, id, balance))
+    refusal_number(credit_ledger::open(credits, id, balance))
 }
 
 pub fn krevilosh_credit_grant(credits: &mut [u32; 257], id: u8, more: u16) -> u64
     ensures value { result ≡ refusal_answer (credit_refusal (answer credits.old (grant id more))) }
     ensures credits_after { credits.new ≡ after credits.old (grant id more) }
 {
-    changed(credit_ledger::grant(credits, id, more))
+    refusal_number(credit_ledger::grant(credits, id, more))
 }
 
 pub fn krevilosh_credit_close(credits: &mut [u32; 257], id: u8) -> u64
     ensures value { result ≡ refusal_answer (credit_refusal (answer credits.old (closing id))) }
     ensures credits_after { credits.new ≡ after credits.old (closing id) }
 {
-    changed(credit_ledger::close(credits, id))
+    refusal_number(credit_ledger::close(credits, id))
 }

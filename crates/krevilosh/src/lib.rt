@@ -3,10 +3,13 @@
 #![tactic(auto)]
 
 ghost use Rattle.std.specs.Prelude.{◌≡◌, ◌<◌};
-ghost use Rattle.krevilosh.specs.Answer.{answer};
+ghost use Rattle.protocol.specs.Refusals.{number_in};
+ghost use Rattle.ledger.specs.Answers.{number_of};
+ghost use Rattle.krevilosh.specs.Answer.{answer, or_zero};
+
+use protocol::Refusal;
 
 mod asking;
-mod changes;
 mod credits;
 mod entries;
 mod publishers;
@@ -31,4 +34,15 @@ fn packed(number: u8, value: u64) -> u64
     ensures { result ≡ answer number value }
 {
     number as u64 + 256 * value
+}
+
+// 0, or the refusal's number.
+fn refusal_number(answer: Result<(), Refusal>) -> u64
+    ensures number { result ≡ number_in answer }
+    ensures of_ledger { result ≡ or_zero (number_of answer) }
+{
+    match answer {
+        Ok(()) => 0,
+        Err(refusal) => refusal.number() as u64,
+    }
 }

@@ -6,7 +6,7 @@ ghost use Rattle.publisher_ledger.specs.Numbers.{refusal_number};
 ghost use Rattle.publisher_ledger.specs.Step.{answer, after};
 ghost use Rattle.krevilosh.specs.Answer.{or_zero};
 
-use crate::changes::changed;
+use crate::refusal_number;
 
 // Closes all ids, whatever the ledger held.
 pub fn krevilosh_publisher_empty(publishers: &mut [u32; 257])
@@ -19,21 +19,21 @@ pub fn krevilosh_publisher_declare(publishers: &mut [u32; 257], id: u8) -> u64
     ensures value { result ≡ or_zero (refusal_number (answer publishers.old (declaration id))) }
     ensures publishers_after { publishers.new ≡ after publishers.old (declaration id) }
 {
-    changed(publisher_ledger::declare(publishers, id))
+    refusal_number(publisher_ledger::declare(publishers, id))
 }
 
 pub fn krevilosh_publisher_delete(publishers: &mut [u32; 257], id: u8) -> u64
     ensures value { result ≡ or_zero (refusal_number (answer publishers.old (deletion id))) }
     ensures publishers_after { publishers.new ≡ after publishers.old (deletion id) }
 {
-    changed(publisher_ledger::delete(publishers, id))
+    refusal_number(publisher_ledger::delete(publishers, id))
 }
 
 pub fn krevilosh_publisher_send(publishers: &mut [u32; 257], id: u8, n: u32) -> u64
     ensures value { result ≡ or_zero (refusal_number (answer publishers.old (sending id n))) }
     ensures publishers_after { publishers.new ≡ after publishers.old (sending id n) }
 {
-    changed(publisher_ledger::send(publishers, id, n))
+    refusal_number(publisher_ledger::send(publishers, id, n))
 }
 
 // Confirmed or in error.
@@ -41,5 +41,5 @@ pub fn krevilosh_publisher_confirm(publishers: &mut [u32; 257], id: u8, n: u32) 
     ensures value { result ≡ or_zero (refusal_number (answer publishers.old (confirming id n))) }
     ensures publishers_after { publishers.new ≡ after publishers.old (confirming id n) }
 {
-    changed(publisher_ledger::confirm(publishers, id, n))
+    refusal_number(publisher_ledger::confirm(publishers, id, n))
 }

@@ -4,7 +4,6 @@ ghost use Rattle.slots.specs.Unflat.{write_flat};
 ghost use Rattle.krevilosh.specs.Answer.{written_answer};
 
 use crate::packed;
-use frame_writing::Written;
 
 // The flat frame, whose places are in the source, to the start of out, under a frame limit.
 pub fn krevilosh_write(frame: &[u64; 24], source: &[u8], limit: u32, out: &mut [u8]) -> u64
@@ -12,7 +11,7 @@ pub fn krevilosh_write(frame: &[u64; 24], source: &[u8], limit: u32, out: &mut [
     ensures out_after { out.new ≡ (write_flat frame.now source.now limit out.old).out }
 {
     match frame_writing::write(frame, source, limit, out) {
-        Written::Length(length) => packed(0, length),
-        Written::Refused(number) => number as u64,
+        Ok(length) => packed(0, length),
+        Err(refusal) => refusal.number() as u64,
     }
 }

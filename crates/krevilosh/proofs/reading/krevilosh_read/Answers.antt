@@ -1,5 +1,5 @@
 -- A frame needs a bounded number of bytes.
-use Rattle.std.proofs.Common.{◌<◌, arith}
+use Rattle.std.proofs.Common.{arith}
 use Rattle.wire.specs.Integers.{Bytes}
 use Rattle.krevilosh.proofs.Answers.{needed_fits}
 use Rattle.krevilosh.proofs.reading.krevilosh_read.Goals as goal
