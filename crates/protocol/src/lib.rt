@@ -9,7 +9,7 @@ mod kind;
 mod layout;
 mod offset;
 mod place;
-pub mod refusal;
+mod refusal;
 mod response_code;
 
 pub use chunk::{Chunk, ChunkHeader};
