@@ -19,31 +19,47 @@ use Rattle.chunk_reader.specs.declared.spot.Spot.{Spot as CodeSpot}
 use Rattle.slot_chunk_reader.specs.Slots.{open_number, opened_from, reader_opened, next_spot, filled_if, moved_to, reader_moved, entry_filled}
 
 -- A chunk is opened.
-module _ (s old : List ℕ) (p : CodeSpot) (e : told_spot p ≡ started s) where
+module _ (s : List ℕ) (p : CodeSpot) (e : told_spot p ≡ started s) where
   found : (q : Spot) → told_spot p ≡ q → told_found p.found ≡ q.found
   found q d = ap (λ (q : Spot). q.found) d
 
-  pub open_refused : (r : Refusal) → p.found ≡ code.Refused r → (refusals.number_of r ≡ open_number s) × (old ≡ reader_opened s old)
-  unfolding started open_number reader_opened
-  open_refused r f = by (read_chunk s 0) (sym (ap told_found f) ∙ found (started s) e)
-    where
-      by : (o : Outcome (Field Place)) → Refused (refusals.number_of r) ≡ (started_from s o).found → (refusals.number_of r ≡ number_of (asked o)) × (old ≡ opened_from s old o)
-      by (got g next) d = cc
-      by (refused m at) d = (cc, refl)
+  module _ (r : Refusal) (f : p.found ≡ code.Refused r) where
+    refused_chunk : (at : ℕ) × (read_chunk s 0 ≡ refused (refusals.number_of r) at)
+    unfolding started
+    refused_chunk = by (read_chunk s 0) (sym (ap told_found f) ∙ found (started s) e)
+      where
+        by : (o : Outcome (Field Place)) → Refused (refusals.number_of r) ≡ (started_from s o).found → (at : ℕ) × (o ≡ refused (refusals.number_of r) at)
+        by (got g next) d = cc
+        by (refused m at) d = (at, cc)
 
-  pub open_ready : ((r : Refusal) → p.found ≡ code.Refused r → ⊥) → (0 ≡ open_number s) × (48 ∷ p.left ∷ 0 ∷ 0 ∷ [] ≡ reader_opened s old)
-  unfolding started open_number reader_opened
-  open_ready k = by (read_chunk s 0) e
-    where
-      is_refused : (f : Found) (n : ℕ) → told_found f ≡ Refused n → ((r : Refusal) → f ≡ code.Refused r → ⊥) → ⊥
-      is_refused code.Ready n d h = cc
-      is_refused (code.Message m) n d h = cc
-      is_refused code.Done n d h = cc
-      is_refused (code.Refused r) n d h = h r refl
+    pub refused_value : refusals.number_of r ≡ open_number s
+    unfolding open_number
+    refused_value = rw refused_chunk.1
 
-      by : (o : Outcome (Field Place)) → told_spot p ≡ started_from s o → (0 ≡ number_of (asked o)) × (48 ∷ p.left ∷ 0 ∷ 0 ∷ [] ≡ opened_from s old o)
-      by (got g next) d = (refl, ap (λ (q : Spot). 48 ∷ q.left ∷ 0 ∷ 0 ∷ []) d)
-      by (refused m at) d = absurd (is_refused p.found m (found _ d) k)
+    pub refused_slots : (old : List ℕ) → old ≡ reader_opened s old
+    unfolding reader_opened
+    refused_slots old = rw refused_chunk.1
+
+  module _ (k : (r : Refusal) → p.found ≡ code.Refused r → ⊥) where
+    is_refused : (f : Found) (n : ℕ) → told_found f ≡ Refused n → ((r : Refusal) → f ≡ code.Refused r → ⊥) → ⊥
+    is_refused code.Ready n d h = cc
+    is_refused (code.Message m) n d h = cc
+    is_refused code.Done n d h = cc
+    is_refused (code.Refused r) n d h = h r refl
+
+    ready : (old : List ℕ) → (0 ≡ open_number s) × (48 ∷ p.left ∷ 0 ∷ 0 ∷ [] ≡ reader_opened s old)
+    unfolding started open_number reader_opened
+    ready old = by (read_chunk s 0) e
+      where
+        by : (o : Outcome (Field Place)) → told_spot p ≡ started_from s o → (0 ≡ number_of (asked o)) × (48 ∷ p.left ∷ 0 ∷ 0 ∷ [] ≡ opened_from s old o)
+        by (got g next) d = (refl, ap (λ (q : Spot). 48 ∷ q.left ∷ 0 ∷ 0 ∷ []) d)
+        by (refused m at) d = absurd (is_refused p.found m (found _ d) k)
+
+    pub ready_value : 0 ≡ open_number s
+    ready_value = (ready []).0
+
+    pub ready_slots : (old : List ℕ) → 48 ∷ p.left ∷ 0 ∷ 0 ∷ [] ≡ reader_opened s old
+    ready_slots old = (ready old).1
 
 -- The next entry is asked for.
 module _ (s r entry : List ℕ) (p : CodeSpot) (e : told_spot p ≡ advanced s (spot (get_or r 0 0) (get_or r 1 0) Ready)) where

@@ -11,6 +11,7 @@ use slots::place_slots;
 
 // Puts the reader at a chunk's first entry. The bytes are checked as the rest of a Deliver is; a refusal leaves the slots as
 // they were.
+#[tactic(auto, using(crate::proofs::SlotCalls::refused_value, crate::proofs::SlotCalls::refused_slots, crate::proofs::SlotCalls::ready_value, crate::proofs::SlotCalls::ready_slots))]
 pub fn open_chunk(chunk: &[u8], reader: &mut [u64; 4]) -> Result<(), Refusal>
     ensures value { number_in result ≡ open_number chunk.now }
     ensures reader_after { reader.new ≡ reader_opened chunk.now reader.old }
@@ -25,6 +26,7 @@ pub fn open_chunk(chunk: &[u8], reader: &mut [u64; 4]) -> Result<(), Refusal>
 
 // Fills the entry's slots with the next entry, and moves the reader past it. At the end and on a refusal nothing is
 // changed. Slots that the host made up are read like any others.
+#[tactic(auto, using(crate::proofs::SlotCalls::next_value, crate::proofs::SlotCalls::message_moves, crate::proofs::SlotCalls::message_fills, crate::proofs::SlotCalls::stays))]
 pub fn next_entry(chunk: &[u8], reader: &mut [u64; 4], entry: &mut [u64; 8]) -> Found
     ensures value { told_found result ≡ next_found chunk.now reader.old }
     ensures reader_after { reader.new ≡ reader_after chunk.now reader.old }
