@@ -54,9 +54,9 @@ fn field_place(kind: FieldKind, slots: &[u64]) -> Place
     ensures { (s : List ℕ) → length s < 0x8000_0000_0000_0000 → part_at s result ≡ octets_in s (octets_of_slots (kind_of kind) slots.now) }
 {
     match kind {
-        FieldKind::String { .. } => place_of(slot(slots, 0, 0), slot(slots, 0, 1)),
-        FieldKind::List(_) => place_of(slot(slots, 0, 1), slot(slots, 0, 2)),
-        FieldKind::Chunk => place_of(slot(slots, 0, 12), slot(slots, 0, 13)),
+        FieldKind::String { .. } => place_of(slot(slots, 0), slot(slots, 1)),
+        FieldKind::List(_) => place_of(slot(slots, 1), slot(slots, 2)),
+        FieldKind::Chunk => place_of(slot(slots, 12), slot(slots, 13)),
         FieldKind::Number(_)
         | FieldKind::Active
         | FieldKind::Signed

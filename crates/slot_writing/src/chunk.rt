@@ -22,10 +22,10 @@ use wire::{Unsigned, Width};
 pub fn check_chunk(src: &[u8], slots: &[u64]) -> Result<(), Refusal>
     ensures { number_in result ≡ refusal_of (write_field K.chunk src.now (unflat_field K.chunk slots.now)) }
 {
-    let kind = slot(slots, 0, 1);
-    let data_length = slot(slots, 0, 8) as usize;
-    let from = slot(slots, 0, 12) as usize;
-    let len = slot(slots, 0, 13) as usize;
+    let kind = slot(slots, 1);
+    let data_length = slot(slots, 8) as usize;
+    let from = slot(slots, 12) as usize;
+    let len = slot(slots, 13) as usize;
     if !is_chunk_type(kind) || !header_fits(slots) {
         return Err(Refusal::ValueNotAdmitted);
     }
@@ -37,8 +37,8 @@ pub fn check_chunk(src: &[u8], slots: &[u64]) -> Result<(), Refusal>
     }
     if has_entries(kind) {
         let end = from + len;
-        let entries = slot(slots, 0, 2);
-        let records = slot(slots, 0, 3);
+        let entries = slot(slots, 2);
+        let records = slot(slots, 3);
         if let Err(fault) = entries_of(&src[from..end], 0, entries, records, 0) {
             return Err(fault.refusal);
         }
@@ -51,7 +51,7 @@ pub fn measure_chunk(src: &[u8], slots: &[u64]) -> Result<usize, Refusal>
     ensures { length_told result ≡ measured (write_field K.chunk src.now (unflat_field K.chunk slots.now)) }
 {
     check_chunk(src, slots)?;
-    let len = slot(slots, 0, 13) as usize;
+    let len = slot(slots, 13) as usize;
     Ok(48 + len)
 }
 
@@ -59,8 +59,8 @@ pub fn measure_chunk(src: &[u8], slots: &[u64]) -> Result<usize, Refusal>
 pub fn put_chunk(out: &mut [u8], at: usize, src: &[u8], slots: &[u64]) -> usize
     ensures { holds out.new result ≡ put_field K.chunk src.now (unflat_field K.chunk slots.now) (holds out.old at) }
 {
-    let from = slot(slots, 0, 12);
-    let len = slot(slots, 0, 13);
+    let from = slot(slots, 12);
+    let len = slot(slots, 13);
     let next = put_header(out, at, slots);
     wire::put_bytes(out, next, src, from as usize, len as usize)
 }
@@ -69,15 +69,15 @@ pub fn put_chunk(out: &mut [u8], at: usize, src: &[u8], slots: &[u64]) -> usize
 fn header_fits(slots: &[u64]) -> bool
     ensures { result ≡ fits_header (unflat_header slots.now) }
 {
-    let magic = slot(slots, 0, 0).signed();
-    let kind = slot(slots, 0, 1).signed();
-    let entries = slot(slots, 0, 2);
-    let records = slot(slots, 0, 3);
-    let checksum = slot(slots, 0, 7).signed();
-    let data_length = slot(slots, 0, 8);
-    let trailer_length = slot(slots, 0, 9);
-    let bloom_size = slot(slots, 0, 10);
-    let reserved = slot(slots, 0, 11);
+    let magic = slot(slots, 0).signed();
+    let kind = slot(slots, 1).signed();
+    let entries = slot(slots, 2);
+    let records = slot(slots, 3);
+    let checksum = slot(slots, 7).signed();
+    let data_length = slot(slots, 8);
+    let trailer_length = slot(slots, 9);
+    let bloom_size = slot(slots, 10);
+    let reserved = slot(slots, 11);
     i8::try_from(magic).is_ok()
         & i8::try_from(kind).is_ok()
         & is_number(Width::Two, entries)
@@ -105,18 +105,18 @@ fn narrowed(x: u64, ones: u64) -> u64
 fn put_header(out: &mut [u8], at: usize, slots: &[u64]) -> usize
     ensures { holds out.new result ≡ put_header (unflat_header slots.now) (holds out.old at) }
 {
-    let next = put_signed(out, at, Width::One, slot(slots, 0, 0));
-    let next = put_signed(out, next, Width::One, slot(slots, 0, 1));
-    let next = wire::put_number(out, next, Width::Two, slot(slots, 0, 2));
-    let next = wire::put_number(out, next, Width::Four, slot(slots, 0, 3));
-    let next = put_signed(out, next, Width::Eight, slot(slots, 0, 4));
-    let next = wire::put_number(out, next, Width::Eight, slot(slots, 0, 5));
-    let next = wire::put_number(out, next, Width::Eight, slot(slots, 0, 6));
-    let next = put_signed(out, next, Width::Four, slot(slots, 0, 7));
-    let next = wire::put_number(out, next, Width::Four, slot(slots, 0, 8));
-    let next = wire::put_number(out, next, Width::Four, slot(slots, 0, 9));
-    let next = wire::put_number(out, next, Width::One, slot(slots, 0, 10));
-    wire::put_number(out, next, Width::Three, slot(slots, 0, 11))
+    let next = put_signed(out, at, Width::One, slot(slots, 0));
+    let next = put_signed(out, next, Width::One, slot(slots, 1));
+    let next = wire::put_number(out, next, Width::Two, slot(slots, 2));
+    let next = wire::put_number(out, next, Width::Four, slot(slots, 3));
+    let next = put_signed(out, next, Width::Eight, slot(slots, 4));
+    let next = wire::put_number(out, next, Width::Eight, slot(slots, 5));
+    let next = wire::put_number(out, next, Width::Eight, slot(slots, 6));
+    let next = put_signed(out, next, Width::Four, slot(slots, 7));
+    let next = wire::put_number(out, next, Width::Four, slot(slots, 8));
+    let next = wire::put_number(out, next, Width::Four, slot(slots, 9));
+    let next = wire::put_number(out, next, Width::One, slot(slots, 10));
+    wire::put_number(out, next, Width::Three, slot(slots, 11))
 }
 
 // A signed number from its 64 bits.

@@ -65,9 +65,9 @@ fn after(slots: &[u64], kind: FieldKind) -> &[u64]
 fn measure_field(src: &[u8], slots: &[u64], kind: FieldKind) -> Result<usize, Refusal>
     ensures { length_told result ≡ measured (write_field (kind_of kind) src.now (unflat_field (kind_of kind) slots.now)) }
 {
-    let first = slot(slots, 0, 0);
-    let second = slot(slots, 0, 1);
-    let third = slot(slots, 0, 2);
+    let first = slot(slots, 0);
+    let second = slot(slots, 1);
+    let third = slot(slots, 2);
     match kind {
         FieldKind::Number(width) => measure_number(width, first),
         FieldKind::Active => measure_active(first),
@@ -94,9 +94,9 @@ fn measure_field(src: &[u8], slots: &[u64], kind: FieldKind) -> Result<usize, Re
 fn put_field(out: &mut [u8], at: usize, src: &[u8], slots: &[u64], kind: FieldKind) -> usize
     ensures { holds out.new result ≡ put_field (kind_of kind) src.now (unflat_field (kind_of kind) slots.now) (holds out.old at) }
 {
-    let first = slot(slots, 0, 0);
-    let second = slot(slots, 0, 1);
-    let third = slot(slots, 0, 2);
+    let first = slot(slots, 0);
+    let second = slot(slots, 1);
+    let third = slot(slots, 2);
     match kind {
         FieldKind::Number(width) => wire::put_number(out, at, width, first),
         FieldKind::Active => wire::put_number(out, at, Width::One, first),

@@ -1,5 +1,5 @@
 // The slots of a field: how many there are, what stands in them, and how they are put.
-ghost use Rattle.std.specs.Prelude.{true, [], ◌∷◌, ◌++◌, ◌≡◌, ◌≤◌, get_or, drop};
+ghost use Rattle.std.specs.Prelude.{true, [], ◌∷◌, ◌++◌, ◌≡◌, ◌≤◌, get_or};
 ghost use Rattle.wire.specs.Signed.{signed};
 ghost use Rattle.protocol.specs.Frames.{nullable_field};
 ghost use Rattle.protocol.specs.Layouts.{kind_of};
@@ -26,18 +26,11 @@ pub fn slots_of(kind: FieldKind) -> usize
     }
 }
 
-// The slot at an index behind a place. Behind the last slot there is a 0.
-pub fn slot(slots: &[u64], at: usize, i: usize) -> u64
-    ensures { result ≡ get_or (drop at slots.now) i 0 }
+// The slot at an index. Behind the last slot there is a 0.
+pub fn slot(slots: &[u64], i: usize) -> u64
+    ensures { result ≡ get_or slots.now i 0 }
 {
-    let len = slots.len();
-    if len <= at {
-        return 0;
-    }
-    if len - at <= i {
-        return 0;
-    }
-    slots[at + i]
+    slots.get(i).copied().unwrap_or(0)
 }
 
 // Puts values into the slots from a place on, as far as there are slots.
