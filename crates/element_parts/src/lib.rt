@@ -1,10 +1,10 @@
 // The texts and byte strings of elements, as parts of the caller's bytes.
 #![tactic(auto)]
 
-ghost use Rattle.std.specs.Prelude.{◌≡◌, List, ℕ, ◌<◌, drop, length};
+ghost use Rattle.std.specs.Prelude.{◌≡◌, List, ℕ, ◌<◌, length};
 ghost use Rattle.protocol.specs.Kinds.{element_row};
 ghost use Rattle.protocol.specs.Layouts.{kind_of};
-ghost use Rattle.slots.specs.Unflat.{slots_of, unflat_row};
+ghost use Rattle.slots.specs.Unflat.{unflat_row};
 ghost use Rattle.parts.specs.Parts.{part_at};
 ghost use Rattle.questions.specs.Questions.{element_at, field_part, octets_in, place_in};
 ghost use Rattle.element_parts.specs.Slots.{octets_of_slots};
@@ -12,7 +12,7 @@ ghost use Rattle.element_parts.specs.Slots.{octets_of_slots};
 use parts::part;
 use protocol::{Element, Elements, FieldKind, Place, element_fields};
 use questions::element;
-use slots::{place_of, slot, slots_of};
+use slots::{place_of, slot, slots_behind};
 
 // The bytes of the field at an index of an element: of its text or byte string, or of the elements of its list. A number, a null
 // and a refusal have none, and the part is empty.
@@ -37,16 +37,9 @@ fn place_in(kind: Element, field: usize, slots: &[u64]) -> Place
             return field_place(kind, rest);
         }
         before -= 1;
-        rest = after(rest, kind);
+        rest = slots_behind(rest, kind);
     }
     Place { at: 0, len: 0 }
-}
-
-// The slots behind those of a field.
-fn after(slots: &[u64], kind: FieldKind) -> &[u64]
-    ensures { result.now ≡ drop (slots_of (kind_of kind)) slots.now }
-{
-    &slots[slots_of(kind).min(slots.len())..]
 }
 
 // The same of the field whose slots stand first.

@@ -1,10 +1,10 @@
 // Fields written from their slots.
-ghost use Rattle.std.specs.Prelude.{◌≡◌, drop};
+ghost use Rattle.std.specs.Prelude.{◌≡◌};
 ghost use Rattle.wire.specs.Buffer.{holds};
 ghost use Rattle.protocol.specs.Layouts.{kind_of, row_from};
 ghost use Rattle.rules.specs.Writing.{write_field, write_row, write_offset};
 ghost use Rattle.fields.specs.Passes.{length_told, measured, measured_from, put_field, put_row, put_offset};
-ghost use Rattle.slots.specs.Unflat.{slots_of, unflat_field, unflat_offset, unflat_row};
+ghost use Rattle.slots.specs.Unflat.{unflat_field, unflat_offset, unflat_row};
 
 use crate::chunk::{measure_chunk, put_chunk};
 use fields::{
@@ -13,7 +13,7 @@ use fields::{
 };
 use lists::{measure_list, put_list};
 use protocol::{FieldKind, OffsetSpecification, Refusal};
-use slots::{list_of, nullable_of, offset_of, place_of, slot, slots_of};
+use slots::{list_of, nullable_of, offset_of, place_of, slot, slots_behind};
 use wire::Width;
 
 // The length of a layout's fields, whose slots these are, with so many bytes in front of them.
@@ -29,7 +29,7 @@ pub fn measure_fields(
     let mut rest = slots;
     for &kind in fields {
         size = size.saturating_add(measure_field(src, rest, kind)?);
-        rest = after(rest, kind);
+        rest = slots_behind(rest, kind);
     }
     Ok(size)
 }
@@ -48,16 +48,9 @@ pub fn put_fields(
     let mut rest = slots;
     for &kind in fields {
         at = put_field(out, at, src, rest, kind);
-        rest = after(rest, kind);
+        rest = slots_behind(rest, kind);
     }
     at
-}
-
-// The slots behind those of a field.
-fn after(slots: &[u64], kind: FieldKind) -> &[u64]
-    ensures { result.now ≡ drop (slots_of (kind_of kind)) slots.now }
-{
-    &slots[slots_of(kind).min(slots.len())..]
 }
 
 // The length of the field whose slots stand first.

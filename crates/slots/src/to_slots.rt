@@ -1,5 +1,5 @@
 // The slots of a field: how many there are, what stands in them, and how they are put.
-ghost use Rattle.std.specs.Prelude.{true, [], ◌∷◌, ◌++◌, ◌≡◌, ◌≤◌, get_or};
+ghost use Rattle.std.specs.Prelude.{true, [], ◌∷◌, ◌++◌, ◌≡◌, ◌≤◌, get_or, drop};
 ghost use Rattle.wire.specs.Signed.{signed};
 ghost use Rattle.protocol.specs.Frames.{nullable_field};
 ghost use Rattle.protocol.specs.Layouts.{kind_of};
@@ -24,6 +24,13 @@ pub fn slots_of(kind: FieldKind) -> usize
         FieldKind::List(_) => 3,
         FieldKind::Chunk => 14,
     }
+}
+
+// The slots behind those of a field, which stand first.
+pub fn slots_behind(slots: &[u64], kind: FieldKind) -> &[u64]
+    ensures { result.now ≡ drop (kinds.slots_of (kind_of kind)) slots.now }
+{
+    &slots[slots_of(kind).min(slots.len())..]
 }
 
 // The slot at an index. Behind the last slot there is a 0.

@@ -21,7 +21,7 @@ loop-kind-preserved c =
     let l = c.loop-kind in
     let fields = c.element_fields-kind-items.result.now in
     let more : l.kind-index < length fields = omega arith in
-    rw c.after-rest.ensures (field_passed fields l.rest.now l.kind-index l.before _ more c.if-before-eq0.false ∙ l.invariant)
+    rw c.slots_behind-rest.ensures (field_passed fields l.rest.now l.kind-index l.before _ more c.if-before-eq0.false ∙ l.invariant)
 
 pub returns : goal.returns
 returns c s small =

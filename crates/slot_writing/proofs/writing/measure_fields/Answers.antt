@@ -14,7 +14,7 @@ pub loop-kind-preserved : goal.loop-kind-preserved
 loop-kind-preserved c =
     let a = c.args in (
       omega (arith, c.saturating_add-size.type_inv),
-      rw c.after-rest.ensures
+      rw c.slots_behind-rest.ensures
           (measures_next a.fields.now a.src.now c.loop-kind.rest.now c.loop-kind.kind-index _ c.loop-kind-test.true c.loop-kind.size c.in_ok-measure_field.field-0 c.saturating_add-size.result c.in_ok-measure_field.ensures (c.saturating_add-size.ensures ∙ capped_min _) ∙ c.loop-kind.invariant.1),
     )
 
