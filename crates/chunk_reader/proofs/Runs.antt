@@ -7,7 +7,6 @@ use mathlib.Core.List.{List, [], ◌∷◌, ◌++◌, map, append-nil}
 use Prim.Native.Nat.{ℕ, zero, suc, ◌+◌, ◌-◌, ◌≤◌, ◌<◌, min}
 use native.Mathlib.Nat.{not-suc-le-zero, le_of_suc-le-suc}
 use native.Mathlib.Omega.{arith}
-use Rattle.std.proofs.Math.Nat.{min-eq_left, min-eq_right}
 use lib.Dec.{ltb, leb, eqb}
 use lib.IntN.{ℤ}
 use lib.ListN.{length, get_or, take, drop, drop_of_length-le}
@@ -21,9 +20,13 @@ use Rattle.rules.specs.Reading.{header_at, has_entries, is_chunk_type, read_entr
 use Rattle.rules.proofs.Gives.{Gives, check, choice, after, after_number, weaker}
 use Rattle.rules.proofs.Parts.{Part, nothing, joined, there, number_part, length_part}
 use Rattle.questions.specs.Found.{message_count, encode_entries}
-use Rattle.chunk_reader.specs.Messages.{Found, Ready, Message, Done, Refused, with_next, messages_at, messages_of, messages, message_or_done, answer_in, answer, is_refused, message_in}
-use Rattle.chunk_reader.specs.Reader.{ChunkReader, Spot, new_reader, spot, started_from, started, behind_entry, advanced}
+use Rattle.chunk_reader.specs.Messages.{with_next, messages_at, messages_of, messages, message_or_done, answer_in, answer, is_refused, message_in}
+use Rattle.chunk_reader.specs.Reader.{spot, started_from, started, behind_entry, advanced}
 use Rattle.chunk_reader.specs.Run.{asked, says, Good, WellFormed, EachAnswer, EachMessage, EachPart, DoneForEver, AsManyAsTheHeaderSays, NothingElse, RefusedForEver}
+use Rattle.chunk_reader.specs.declared.reader.ChunkReader.{ChunkReader}
+use Rattle.chunk_reader.specs.declared.spot.Found.{Found}
+use Rattle.chunk_reader.specs.declared.spot.Found.TheVariants.{Ready, Message, Done, Refused}
+use Rattle.chunk_reader.specs.declared.spot.Spot.{Spot}
 
 -- What holds of everything that reading gives holds where something was read.
 given : {A X : Type 0} (o : Outcome A) → Gives (λ _ _. X) o → Good o → X
@@ -209,18 +212,24 @@ messages_few (suc n) s at = by (read_entry s at) (λ next. messages_few n s next
     by (got p next) h = let l : length (messages_at n s next) ≤ n = h next in omega (arith, l)
     by (refused m p) h = omega arith
 
-pub enough : (c : Bor (List ℕ)) (k : ℕ) (r : ChunkReader) → r ≡ new_reader c → (asked (suc (min r.spot.left k)) r).spot.found ≡ answer c.now k
-unfolding started answer
-enough c k r e = ap (λ (r : ChunkReader). (asked (suc (min r.spot.left k)) r).spot.found) e ∙ (each c _ ∙ by_outcome (read_chunk c.now 0))
+lesser : (a b : ℕ) → min a b ≡ cond (ltb a b) a b
+lesser a b = by (ltb a b) refl
   where
-    by_test : (n : ℕ) (t : Bool) → ltb n k ≡ t → length (messages_of c.now) ≤ n → message_or_done (messages_of c.now) (min n k) ≡ message_or_done (messages_of c.now) k
+    by : (t : Bool) → ltb a b ≡ t → min a b ≡ cond t a b
+    by true e = let l = ltb-true a b e in omega arith
+    by false e = let l = ltb-false a b e in omega arith
+
+pub enough : (c : Bor (List ℕ)) (k : ℕ) → says c (suc (min (started c.now).left k)) ≡ answer c.now k
+unfolding started answer
+enough c k = rw (lesser (started c.now).left k) (each c _ ∙ by_outcome (read_chunk c.now 0))
+  where
+    by_test : (n : ℕ) (t : Bool) → ltb n k ≡ t → length (messages_of c.now) ≤ n → message_or_done (messages_of c.now) (cond t n k) ≡ message_or_done (messages_of c.now) k
     by_test n true e l =
         let h = ltb-true n k e in
-        let m : min n k ≡ n = min-eq_left (omega (arith, h)) in
-        rw m (behind_last (messages_of c.now) n l ∙ sym (behind_last (messages_of c.now) k (omega (arith, l, h))))
-    by_test n false e l = ap (message_or_done (messages_of c.now)) (min-eq_right (ltb-false n k e))
+        behind_last (messages_of c.now) n l ∙ sym (behind_last (messages_of c.now) k (omega (arith, l, h)))
+    by_test n false e l = refl
 
-    by_outcome : (o : Outcome (Field Place)) → answer_in o (messages_of c.now) (min (started_from c.now o).left k) ≡ answer_in o (messages_of c.now) k
+    by_outcome : (o : Outcome (Field Place)) → answer_in o (messages_of c.now) (cond (ltb (started_from c.now o).left k) (started_from c.now o).left k) ≡ answer_in o (messages_of c.now) k
     by_outcome (got f behind) =
         let n = message_count (header_at c.now 0) in by_test n (ltb n k) refl (messages_few n c.now 48)
     by_outcome (refused m p) = refl

@@ -1,28 +1,13 @@
 -- The messages of a chunk (01 "Chunks"), by their places in the chunk's bytes `s`, header first.
 use Rattle.std.specs.Prelude.{Bool, true, false, List, [], ◌∷◌, map, ℕ, zero, suc, ◌+◌, ◌-◌, get_or, take, drop}
 use Rattle.protocol.specs.Fields.{Field, place, bytes_at}
-use Rattle.protocol.specs.Refusals.{number_of}
 use Rattle.protocol.specs.declared.place.Place.{Place}
 use Rattle.parts.specs.Parts.{part_at}
 use Rattle.questions.specs.Found.{message_count}
 use Rattle.rules.specs.Outcome.{Outcome, got, refused}
 use Rattle.rules.specs.Reading.{header_at, read_entry, read_chunk}
-use Rattle.chunk_reader.specs.declared.spot.Found.{Found as CodeFound}
-use Rattle.chunk_reader.specs.declared.spot.Found.TheVariants.{Ready as CodeReady, Message as CodeMessage, Done as CodeDone, Refused as CodeRefused}
-
--- What a reader says: it was not asked yet; the place of a message; there is no further one; or the number of a refusal.
-pub data Found : Type 0 where
-  Ready : Found
-  Message : Place → Found
-  Done : Found
-  Refused : ℕ → Found
-
--- So the code says it.
-abbrev pub told_found : CodeFound → Found
-told_found CodeReady = Ready
-told_found (CodeMessage p) = Message p
-told_found CodeDone = Done
-told_found (CodeRefused r) = Refused (number_of r)
+use Rattle.chunk_reader.specs.declared.spot.Found.{Found}
+use Rattle.chunk_reader.specs.declared.spot.Found.TheVariants.{Ready, Message, Done, Refused}
 
 -- An entry's message, and then those of the entries behind it.
 abbrev pub with_next : Outcome Place → (ℕ → List Place) → List Place
@@ -66,6 +51,13 @@ is_refused Ready = false
 is_refused (Message p) = false
 is_refused Done = false
 is_refused (Refused n) = true
+
+-- The place of the message; an empty place where none is found.
+abbrev pub place_in : Found → Place
+place_in Ready = place 0 0
+place_in (Message p) = p
+place_in Done = place 0 0
+place_in (Refused n) = place 0 0
 
 -- The bytes of the message; empty where none is found, or where a place that the host made up reaches outside.
 abbrev pub message_in : List ℕ → Found → List ℕ

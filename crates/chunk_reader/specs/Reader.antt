@@ -6,22 +6,15 @@ use Rattle.protocol.specs.declared.place.Place.{Place}
 use Rattle.rules.specs.Outcome.{Outcome, got, refused}
 use Rattle.rules.specs.Reading.{header_at, read_entry, read_chunk}
 use Rattle.questions.specs.Found.{message_count}
-use Rattle.chunk_reader.specs.Messages.{Found, Ready, Message, Done, Refused, is_refused, told_found}
-use Rattle.chunk_reader.specs.declared.reader.ChunkReader.{ChunkReader as CodeReader}
-use Rattle.chunk_reader.specs.declared.spot.Spot.{Spot as CodeSpot}
+use Rattle.chunk_reader.specs.Messages.{is_refused}
+use Rattle.chunk_reader.specs.declared.reader.ChunkReader.{ChunkReader}
+use Rattle.chunk_reader.specs.declared.spot.Found.{Found}
+use Rattle.chunk_reader.specs.declared.spot.Found.TheVariants.{Ready, Message, Done, Refused}
+use Rattle.chunk_reader.specs.declared.spot.Spot.{Spot}
 
 -- A reader's place: where the next entry begins, how many entries are left, and what was found last.
-pub record Spot : Type 0 where
-  pub at : ℕ
-  pub left : ℕ
-  pub found : Found
-
 abbrev pub spot : ℕ → ℕ → Found → Spot
 spot a l f = record { at = a; left = l; found = f }
-
--- So the code has it.
-abbrev pub told_spot : CodeSpot → Spot
-told_spot p = spot p.at p.left (told_found p.found)
 
 -- In front of a chunk's first entry, if the bytes are one well-formed chunk; else the refusal of reading it.
 abbrev pub started_from : List ℕ → Outcome (Field Place) → Spot
@@ -45,14 +38,6 @@ advanced s p =
     cond (is_refused p.found) p
     (cond (eqb p.left 0) (spot p.at 0 Done)
     (behind_entry p (read_entry s p.at)))
-
--- A reader: the chunk's bytes, header first, and its place.
-pub record ChunkReader : Type 0 where
-  pub chunk : Bor (List ℕ)
-  pub spot : Spot
-
-abbrev pub told_reader : CodeReader → ChunkReader
-told_reader r = record { chunk = r.chunk; spot = told_spot r.spot }
 
 -- A reader made of a chunk's bytes, and one that is asked for the next message.
 abbrev pub new_reader : Bor (List ℕ) → ChunkReader

@@ -6,8 +6,11 @@ use Rattle.protocol.specs.Fields.{place}
 use Rattle.rules.specs.Outcome.{Outcome, got, refused}
 use Rattle.rules.specs.Reading.{header_at, read_chunk}
 use Rattle.questions.specs.Found.{message_count, encode_entries}
-use Rattle.chunk_reader.specs.Messages.{Found, Message, Done, Refused, messages_of, messages, message_in, answer}
-use Rattle.chunk_reader.specs.Reader.{ChunkReader, new_reader, next_reader}
+use Rattle.chunk_reader.specs.Messages.{messages_of, messages, message_in, answer}
+use Rattle.chunk_reader.specs.Reader.{new_reader, next_reader}
+use Rattle.chunk_reader.specs.declared.reader.ChunkReader.{ChunkReader}
+use Rattle.chunk_reader.specs.declared.spot.Found.{Found}
+use Rattle.chunk_reader.specs.declared.spot.Found.TheVariants.{Message, Done, Refused}
 
 -- A reader that is asked n times.
 unfoldable pub asked : ℕ → ChunkReader → ChunkReader

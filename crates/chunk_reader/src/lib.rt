@@ -6,4 +6,4 @@ mod reader;
 mod spot;
 
 pub use reader::{ChunkReader, nth};
-pub use spot::{Found, Spot};
+pub use spot::{Found, Spot, advance, part, start};

@@ -20,8 +20,10 @@ use Rattle.rules.proofs.Gives.{choice}
 use Rattle.rules.proofs.RefusalNumbers.{numbers}
 use Rattle.questions.specs.Questions.{Asked, found, refusal, asked, number_of}
 use Rattle.slots.specs.Unflat.{unflat_frame, write_flat}
-use Rattle.chunk_reader.specs.Messages.{Found, Ready}
-use Rattle.chunk_reader.specs.Reader.{Spot, spot, behind_entry, advanced}
+use Rattle.chunk_reader.specs.Reader.{spot, behind_entry, advanced}
+use Rattle.chunk_reader.specs.declared.spot.Found.{Found}
+use Rattle.chunk_reader.specs.declared.spot.Found.TheVariants.{Ready}
+use Rattle.chunk_reader.specs.declared.spot.Spot.{Spot}
 use Rattle.slot_chunk_reader.specs.Slots.{open_number, next_spot}
 use Rattle.slot_questions.specs.Asked.{ask_element, ask_message}
 use Rattle.slot_questions.specs.Numbers.{NumberFrom}

@@ -5,7 +5,8 @@ use Rattle.std.specs.Prelude.{ℕ, ◌+◌, ◌*◌, ◌≤◌}
 use Rattle.rules.specs.Answers.{Refusal, numbered}
 use Rattle.rules.specs.Writing.{Written, length}
 use Rattle.rules.specs.Writing as writing
-use Rattle.chunk_reader.specs.Messages.{Found, Ready, Message, Done, Refused}
+use Rattle.chunk_reader.specs.declared.spot.Found.{Found}
+use Rattle.chunk_reader.specs.declared.spot.Found.TheVariants.{Ready, Message, Done, Refused}
 
 abbrev pub answer : ℕ → ℕ → ℕ
 answer number value = number + 256 * value

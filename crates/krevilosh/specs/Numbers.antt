@@ -13,7 +13,8 @@ use Rattle.questions.specs.Questions.{Asked, found, refusal, asked, number_of}
 use Rattle.slots.specs.Unflat.{write_flat}
 use Rattle.slot_chunk_reader.specs.Slots.{open_number, next_found}
 use Rattle.slot_questions.specs.Asked.{ask_element, ask_message}
-use Rattle.chunk_reader.specs.Messages.{Found, Ready, Message, Done, Refused}
+use Rattle.chunk_reader.specs.declared.spot.Found.{Found}
+use Rattle.chunk_reader.specs.declared.spot.Found.TheVariants.{Ready, Message, Done, Refused}
 use Rattle.credit_ledger.specs.Calls.{opening, grant, closing, received}
 use Rattle.credit_ledger.specs.Numbers.{credit_refusal}
 use Rattle.credit_ledger.specs.Step as credit

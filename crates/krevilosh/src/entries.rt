@@ -1,10 +1,9 @@
 // The chunk reader: a chunk's entries one after another.
 ghost use Rattle.std.specs.Prelude.{◌≡◌};
-ghost use Rattle.chunk_reader.specs.Messages.{told_found};
 ghost use Rattle.slot_chunk_reader.specs.Slots.{open_number, reader_opened, next_found, reader_after, entry_after};
 ghost use Rattle.krevilosh.specs.Answer.{next_answer};
 
-use crate::{packed, refusal_number};
+use crate::packed;
 use chunk_reader::Found;
 
 // Opens a chunk, header first, which is checked as the rest of a Deliver is.
@@ -12,7 +11,7 @@ pub fn krevilosh_chunk_open(chunk: &[u8], reader: &mut [u64; 4]) -> u64
     ensures value { result ≡ open_number chunk.now }
     ensures reader_after { reader.new ≡ reader_opened chunk.now reader.old }
 {
-    refusal_number(slot_chunk_reader::open_chunk(chunk, reader))
+    slot_chunk_reader::open_chunk(chunk, reader) as u64
 }
 
 // The next entry, if one is left.
@@ -27,11 +26,11 @@ pub fn krevilosh_chunk_next(chunk: &[u8], reader: &mut [u64; 4], entry: &mut [u6
 
 // What is answered: an entry with a 1 above the number, which tells it from the end.
 fn number_of(found: Found) -> u64
-    ensures { result ≡ next_answer (told_found found) }
+    ensures { result ≡ next_answer found }
 {
     match found {
         Found::Ready | Found::Done => 0,
         Found::Message(_) => packed(0, 1),
-        Found::Refused(refusal) => refusal.number() as u64,
+        Found::Refused(number) => number as u64,
     }
 }

@@ -21,9 +21,11 @@ use Rattle.rules.proofs.Bounds.{Numbered, numbered_entry, numbered_field}
 use Rattle.rules.proofs.Gives.{Gives, check, after_number}
 use Rattle.slots.specs.Flat.{padded}
 use Rattle.questions.specs.Found.{message_count}
-use Rattle.chunk_reader.specs.Messages.{Ready, Message, Done, Refused, with_next, messages_at}
-use Rattle.chunk_reader.specs.Reader.{Spot, spot, behind_entry, advanced}
+use Rattle.chunk_reader.specs.Messages.{with_next, messages_at}
+use Rattle.chunk_reader.specs.Reader.{spot, behind_entry, advanced}
 use Rattle.chunk_reader.specs.Run.{Good, WellFormed}
+use Rattle.chunk_reader.specs.declared.spot.Found.TheVariants.{Ready, Message, Done, Refused}
+use Rattle.chunk_reader.specs.declared.spot.Spot.{Spot}
 use Rattle.chunk_reader.proofs.Runs.{chunk_good, as_many, entry_inside, not_zero}
 use Rattle.slot_chunk_reader.specs.SlotRun.{Lent, lent, asked_once, asked_times, Answers, at_first, entry_slots, SlotRun}
 use Rattle.slot_chunk_reader.specs.Slots.{open_number, opened_from, reader_opened, next_spot, reader_moved, entry_filled}

@@ -6,8 +6,10 @@ use Rattle.protocol.specs.declared.place.Place.{Place}
 use Rattle.rules.specs.Outcome.{got, refused}
 use Rattle.rules.specs.Reading.{read_entry, read_chunk, frame, read_frame}
 use Rattle.slots.specs.Flat.{flat_frame}
-use Rattle.chunk_reader.specs.Messages.{Found, Message, Done, Refused, messages_of, message_no, chunk_at}
+use Rattle.chunk_reader.specs.Messages.{messages_of, message_no, chunk_at}
 use Rattle.chunk_reader.specs.Run.{WellFormed}
+use Rattle.chunk_reader.specs.declared.spot.Found.{Found}
+use Rattle.chunk_reader.specs.declared.spot.Found.TheVariants.{Message, Done, Refused}
 use Rattle.slot_chunk_reader.specs.Slots.{open_number, reader_opened, next_found, reader_after, entry_after}
 
 -- What the host lends to a question: the reader's four slots and the entry's eight.

@@ -9,8 +9,10 @@ use Rattle.rules.specs.Outcome.{Outcome, got, refused}
 use Rattle.rules.specs.Reading.{header_at, read_chunk}
 use Rattle.slots.specs.Flat.{flat_place, padded}
 use Rattle.questions.specs.Found.{message_count}
-use Rattle.chunk_reader.specs.Messages.{Found, Ready, Message, Done, Refused}
-use Rattle.chunk_reader.specs.Reader.{Spot, spot, advanced}
+use Rattle.chunk_reader.specs.Reader.{spot, advanced}
+use Rattle.chunk_reader.specs.declared.spot.Found.{Found}
+use Rattle.chunk_reader.specs.declared.spot.Found.TheVariants.{Ready, Message, Done, Refused}
+use Rattle.chunk_reader.specs.declared.spot.Spot.{Spot}
 
 -- A chunk is opened: the number of the check that refuses it; 0 if it is well formed.
 unfoldable pub open_number : List ℕ → ℕ

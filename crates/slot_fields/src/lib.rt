@@ -2,4 +2,4 @@
 #![tactic(auto)]
 
 pub use slot_reading::{read_content, read_element};
-pub use slot_writing::{chunk_refusal, put_chunk, write_fields};
+pub use slot_writing::{check_chunk, measure_fields, put_chunk, put_fields};

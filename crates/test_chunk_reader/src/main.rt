@@ -67,9 +67,9 @@ fn said(found: Found) {
         Found::Ready => word(b" ready"),
         Found::Message(place) => decimal(place.len as u64),
         Found::Done => word(b" done"),
-        Found::Refused(refusal) => {
+        Found::Refused(number) => {
             word(b" refused");
-            decimal(refusal.number() as u64)
+            decimal(number as u64)
         }
     };
 }

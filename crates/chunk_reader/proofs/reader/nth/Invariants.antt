@@ -1,11 +1,7 @@
 -- What is said in the end is still to come: the questions that are left give what all of them give from the start.
-use Rattle.std.proofs.Common.{◌≡◌, ◌-◌, ◌≤◌, suc}
-use Rattle.chunk_reader.specs.Reader.{told_reader}
+use Rattle.std.proofs.Common.{◌≡◌, ◌-◌, suc}
 use Rattle.chunk_reader.specs.Run.{asked}
 use Rattle.chunk_reader.proofs.reader.nth.Given as goal
 
 abbrev pub invariant-loop : goal.invariant-loop
-invariant-loop l = record {
-  order : l.counter ≤ l.before;
-  to_come : (asked (suc (l.before - l.counter)) (told_reader l.reader)).spot.found ≡ (asked (suc l.before) (told_reader l.initial.reader)).spot.found;
-}
+invariant-loop l = (asked (suc (l.before - l.counter)) l.reader).spot.found ≡ (asked (suc l.before) l.initial.reader).spot.found
