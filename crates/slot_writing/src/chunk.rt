@@ -39,7 +39,9 @@ pub fn check_chunk(src: &[u8], slots: &[u64]) -> Result<(), Refusal>
         let end = from + len;
         let entries = slot(slots, 2);
         let records = slot(slots, 3);
-        entries_of(&src[from..end], 0, entries, records, 0)?;
+        if let Err(fault) = entries_of(&src[from..end], 0, entries, records, 0) {
+            return Err(fault.refusal);
+        }
     }
     Ok(())
 }
