@@ -11,7 +11,7 @@ use wire::Width;
 pub fn heartbeat(s: &[u8], slots: &mut [u64; 24]) -> Option<()>
     ensures { ReadsAs (read_layout 0x0017 1 s.now) slots.old result slots.new }
 {
-    if !s.is_empty() {
+    if s.len() != 0 {
         return None;
     }
     *slots = filled([0x0017, 1]);

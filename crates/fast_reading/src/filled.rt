@@ -2,7 +2,7 @@
 ghost use Rattle.std.specs.Prelude.{◌≡◌, ◌≤◌};
 ghost use Rattle.slots.specs.Flat.{padded};
 
-pub fn filled<const N: usize>(first: [u64; N]) -> [u64; 24]
+pub(crate) fn filled<const N: usize>(first: [u64; N]) -> [u64; 24]
     requires { N ≤ 24 }
     ensures { result ≡ padded 24 first.entry }
 {

@@ -38,7 +38,12 @@ impl<const N: usize> Filling<N> {
     }
 
     // The fields of a layout or of an element, in wire order, from a place on.
-    pub fn read(&mut self, s: &[u8], start: usize, fields: &[FieldKind]) -> Result<usize, Fault>
+    pub(crate) fn read(
+        &mut self,
+        s: &[u8],
+        start: usize,
+        fields: &[FieldKind],
+    ) -> Result<usize, Fault>
         requires { self.old.base + length s.now < 0x1_0000_0000_0000_0000 }
         ensures value { told result ≡ stop (read_row (row_from fields.now) s.now start) }
         ensures filled { Filled self.old.base (row_from fields.now) (read_row (row_from fields.now) s.now start) self.old.slots self.old.next self.new.slots }
