@@ -1,5 +1,5 @@
 -- A Deliver by its version: where its chunk begins, what it is refused with, and its slots. Assumes nothing.
-use Rattle.std.proofs.Common.{◌≡◌, refl, ◌∙◌, sym, ap, Bool, true, false, cond, List, [], ◌∷◌, ◌++◌, ℕ, ◌+◌, ◌≤◌, eqb, length, Option, Some, None, Result, Ok, Err, arith}
+use Rattle.std.proofs.Common.{◌≡◌, refl, ◌∙◌, ap, Bool, true, false, cond, List, [], ◌∷◌, ◌++◌, ℕ, ◌+◌, ◌≤◌, eqb, length, Option, Some, None, Result, Ok, Err, arith}
 use borrow.Author.Tests.{eqb-true}
 use Rattle.wire.specs.Integers.{Bytes, big_endian}
 use Rattle.protocol.specs.Decision.{versions_in, of_version, decide}
