@@ -1,3 +1,4 @@
 -- Lemmas that belong to no one function.
 pub mod ElementEnds
 pub mod Rows
+pub mod Walks

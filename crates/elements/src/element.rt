@@ -1,7 +1,8 @@
-// An element of a list, field by field.
-ghost use Rattle.std.specs.Prelude.{◌≡◌, true};
+// The elements of a list, field by field.
+ghost use Rattle.std.specs.Prelude.{◌≡◌, true, All};
 ghost use Rattle.protocol.specs.Kinds.{element_row};
-ghost use Rattle.protocol.specs.Layouts.{is_in_elements, kind_of};
+ghost use Rattle.protocol.specs.Layouts.{is_in_elements, kind_of, row_from};
+ghost use Rattle.rules.specs.Outcome.{repeated};
 ghost use Rattle.rules.specs.Reading.{read_field, read_row};
 ghost use Rattle.byte_strings.specs.Stops.{stop, told};
 
@@ -11,12 +12,31 @@ use number_lists::numbers_end;
 use protocol::{Element, FieldKind, element_fields};
 use wire::Width;
 
+// So many elements of any kind from a place on. The one that is refused is gone through once.
+pub fn walked_end(s: &[u8], start: usize, kind: Element, count: usize) -> Result<usize, Fault>
+    ensures { told result ≡ stop (repeated (read_row (element_row kind)) count s.now start) }
+{
+    let fields = element_fields(kind);
+    let mut at = start;
+    for _ in 0..count {
+        at = row_end(s, at, fields)?;
+    }
+    Ok(at)
+}
+
 // Where the element at a place ends, or why it is refused.
 pub fn element_end(s: &[u8], start: usize, kind: Element) -> Result<usize, Fault>
     ensures { told result ≡ stop (read_row (element_row kind) s.now start) }
 {
+    row_end(s, start, element_fields(kind))
+}
+
+fn row_end(s: &[u8], start: usize, fields: &[FieldKind]) -> Result<usize, Fault>
+    requires { All (λ k. is_in_elements k ≡ true) fields.now }
+    ensures { told result ≡ stop (read_row (row_from fields.now) s.now start) }
+{
     let mut at = start;
-    for field in element_fields(kind) {
+    for field in fields {
         at = field_end(s, at, *field)?;
     }
     Ok(at)

@@ -7,7 +7,7 @@ ghost use Rattle.rules.specs.Reading.{read_row};
 ghost use Rattle.byte_strings.specs.Stops.{only_end, stop, told};
 ghost use Rattle.number_lists.specs.Fixed.{NumbersOf};
 
-use crate::element::element_end;
+use crate::element::{element_end, walked_end};
 use byte_strings::{Fault, Item, after_bytes, after_text, items_end};
 use number_lists::fixed_end;
 use protocol::Element;
@@ -26,7 +26,7 @@ pub fn elements_end(s: &[u8], at: usize, kind: Element, count: usize) -> Result<
         Element::CommandVersions => fixed(s, at, kind, 6, count),
         Element::BrokerReference => fixed(s, at, kind, 2, count),
         Element::FilteredMessage | Element::Broker | Element::StreamMetadata | Element::Statistic =>
-            items_end(&Walked(kind), s, at, count),
+            walked_end(s, at, kind, count),
     }
 }
 
@@ -78,22 +78,6 @@ impl Item for Property {
 
     fn end(&self, s: &[u8], at: usize) -> Result<usize, Fault> {
         element_end(s, at, Element::Property)
-    }
-}
-
-// Of any kind, field by field.
-#[derive(Drop)]
-struct Walked(Element);
-
-impl Item for Walked {
-    ghost read = { λ walked s at. only_end (read_row (element_row walked.0) s at) };
-
-    fn after(&self, s: &[u8], at: usize) -> Option<usize> {
-        element_end(s, at, self.0).ok()
-    }
-
-    fn end(&self, s: &[u8], at: usize) -> Result<usize, Fault> {
-        element_end(s, at, self.0)
     }
 }
 

@@ -34,8 +34,3 @@ pub returns-in-Property : goal.returns-in-Property
 returns-in-Property c =
     let a = c.args in
     rw c.in-Property.is (c.items_end-in-Property.ensures ∙ ap stop (repeated_ends (read_row (element_row Property)) a.count a.s.now a.at))
-
-pub returns-in-FilteredMessage : goal.returns-in-FilteredMessage
-returns-in-FilteredMessage c =
-    let a = c.args in
-    c.items_end-in-FilteredMessage.ensures ∙ ap stop (repeated_ends (read_row (element_row a.kind)) a.count a.s.now a.at)
