@@ -12,7 +12,9 @@ use number_lists::numbers_end;
 use protocol::{Element, FieldKind, element_fields};
 use wire::Width;
 
-// So many elements of any kind from a place on. The one that is refused is gone through once.
+// So many elements of any kind from a place on. The one that is refused is gone through once. It is kept out of `elements_end`, whose
+// quick loops are slower with it.
+#[inline(never)]
 pub fn walked_end(s: &[u8], start: usize, kind: Element, count: usize) -> Result<usize, Fault>
     ensures { told result ≡ stop (repeated (read_row (element_row kind)) count s.now start) }
 {
