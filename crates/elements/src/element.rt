@@ -12,8 +12,8 @@ use number_lists::numbers_end;
 use protocol::{Element, FieldKind, element_fields};
 use wire::Width;
 
-// So many elements of any kind from a place on. The one that is refused is gone through once. It is kept out of `elements_end`, whose
-// quick loops are slower with it.
+// So many elements of any kind from a place on. One that is refused is gone through once, since its walk knows why. It is kept out of
+// `elements_end`, whose quick loops are slower with it.
 #[inline(never)]
 pub fn walked_end(s: &[u8], start: usize, kind: Element, count: usize) -> Result<usize, Fault>
     ensures { told result ≡ stop (repeated (read_row (element_row kind)) count s.now start) }
@@ -33,6 +33,8 @@ pub fn element_end(s: &[u8], start: usize, kind: Element) -> Result<usize, Fault
     row_end(s, start, element_fields(kind))
 }
 
+// The answer is larger than two registers, so a call for each element would hand it over in memory.
+#[inline(always)]
 fn row_end(s: &[u8], start: usize, fields: &[FieldKind]) -> Result<usize, Fault>
     requires { All (λ k. is_in_elements k ≡ true) fields.now }
     ensures { told result ≡ stop (read_row (row_from fields.now) s.now start) }
