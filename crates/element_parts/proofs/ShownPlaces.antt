@@ -14,7 +14,7 @@ use borrow.Author.Tests.{lt-ltb, eqb-true}
 use Rattle.wire.specs.Integers.{Bytes, big_endian}
 use Rattle.protocol.specs.Fields as F
 use Rattle.protocol.specs.Fields.{Field, bytes_at, further, outside, over_places, place}
-use Rattle.protocol.specs.Layouts.{kind_of, row_from}
+use Rattle.protocol.specs.Layouts.{kind_of, row_by, row_from}
 use Rattle.protocol.specs.Kinds.{Kind, unsigned, signed, string, specification, list, chunk, Row, end, ◌·◌}
 use Rattle.protocol.specs.Refusals.{field_cut, value_not_admitted}
 use Rattle.protocol.specs.declared.chunk.ChunkHeader.{ChunkHeader}
@@ -155,7 +155,7 @@ module _ (fields : List FieldKind) (slots : List ℕ) (i n : ℕ) (d : FieldKind
   field_reached y = rw (next_field fields slots d i 0 l, y)
 
 pub none_left : (fields : List FieldKind) (slots : List ℕ) (i n : ℕ) → i ≡ length fields → none ≡ Left (drop i fields) slots n
-unfolding row_from
+unfolding row_by
 none_left fields slots i n l = rw (l, drop-length fields)
 
 -- ---- An element that was asked for

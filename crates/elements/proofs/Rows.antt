@@ -14,7 +14,7 @@ use native.Mathlib.Omega.{arith}
 use Rattle.wire.specs.Signed as two's
 use Rattle.protocol.specs.Fields.{Field, integer, number}
 use Rattle.protocol.specs.Kinds.{Kind, Row, ◌·◌, unsigned, signed}
-use Rattle.protocol.specs.Layouts.{kind_of, row_from}
+use Rattle.protocol.specs.Layouts.{kind_of, row_by, row_from}
 use Rattle.protocol.specs.declared.kind.FieldKind.{FieldKind}
 use Rattle.protocol.specs.declared.kind.FieldKind.TheVariants.{Number}
 use Rattle.protocol.specs.declared.place.Place.{Place}
@@ -41,7 +41,7 @@ module _ (fields : List FieldKind) (s : List ℕ) where
     next_kind = kind_of (get_or fields i d)
 
     pub next_field : rest i ≡ next_kind · rest (i + 1)
-    unfolding row_from
+    unfolding row_by
     next_field = rw (add-one, drop-cons fields i d l)
 
     pub row_refused : (f : Fault) → told (Err f) ≡ stop (read_field next_kind s at) → told (Err f) ≡ stop (read_row (rest i) s at)
@@ -55,7 +55,7 @@ module _ (fields : List FieldKind) (s : List ℕ) where
         rw (next_field, r.1) (in_front r.0 (read_row (rest (i + 1)) s next))
 
   pub row_ended : (i at : ℕ) → i ≡ length fields → told (Ok at) ≡ stop (read_row (rest i) s at)
-  unfolding row_from read_row
+  unfolding row_by read_row
   row_ended i at h = rw (h, drop-length fields)
 
 -- ---- Numbers that fill their bytes end where their bytes do

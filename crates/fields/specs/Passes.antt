@@ -13,7 +13,9 @@ use Rattle.protocol.specs.declared.offset.OffsetSpecification.{OffsetSpecificati
 use Rattle.protocol.specs.declared.offset.OffsetSpecification.TheVariants.{None, First, Last, Next, Offset, Timestamp}
 use Rattle.protocol.specs.declared.place.Place.{Place}
 use Rattle.protocol.specs.declared.refusal.Refusal.{Refusal}
-use Rattle.rules.specs.Writing.{Encoding, wrote, refuse, Written, length, refusal, place_of}
+use Rattle.rules.specs.Writing.{Encoding, wrote, refuse, Written, length, refusal, place_of, write_field}
+use Rattle.byte_strings.specs.Stops.{Stop, stop_at}
+use Rattle.byte_strings.specs.declared.fault.Fault.{Fault}
 
 -- ---- Measuring
 
@@ -21,6 +23,11 @@ use Rattle.rules.specs.Writing.{Encoding, wrote, refuse, Written, length, refusa
 abbrev pub length_told : Result ℕ Refusal → Written
 length_told (Ok n) = length n
 length_told (Err r) = refusal (number_of r)
+
+-- The same where the refusal stands with a place.
+abbrev pub length_said : Result ℕ Fault → Written
+length_said (Ok n) = length n
+length_said (Err fault) = refusal (number_of fault.refusal)
 
 -- What measuring says of a field.
 abbrev pub measured : Encoding → Written
@@ -39,6 +46,17 @@ capped n = cond (ltb bound n) bound n
 abbrev pub measured_from : ℕ → Encoding → Written
 measured_from at (wrote b) = length (capped (at + len b))
 measured_from at (refuse n) = refusal n
+
+-- A field behind so many bytes: what is measured behind it; or the length in front of it, and the number that it is refused with.
+abbrev pub counted : ℕ → Encoding → (ℕ → Stop) → Stop
+counted at (wrote b) rest = rest (capped (at + len b))
+counted at (refuse n) rest = stop_at at n
+
+-- A row of fields in wire order, behind so many bytes: the length of all; or that in front of the first that is refused.
+unfoldable pub measured_row : ℕ → Row → List ℕ → List (Field Place) → Stop
+measured_row at end src fs = stop_at at 0
+measured_row at (kind · row) src [] = stop_at at 0
+measured_row at (kind · row) src (f ∷ fs) = counted at (write_field kind src f) (λ next. measured_row next row src fs)
 
 -- ---- How each kind of field is put
 

@@ -1,5 +1,6 @@
 // The rule of each other kind of single field, that is numbers and offset specifications: where it ends, or why it is refused.
-// And for each kind, byte strings too, its length when it is written, or why it is refused; and how it is put.
+// And for each kind, byte strings too, its length when it is written, or why it is refused; and how it is put, but for numbers, which
+// `wire` puts.
 #![tactic(auto)]
 
 mod number;

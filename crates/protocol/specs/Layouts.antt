@@ -1,6 +1,8 @@
 -- What the kinds of field in the code are, and the row of several, one after another.
-use Rattle.std.specs.Prelude.{Bool, true, false, ◌||◌, List, [], ◌∷◌, ℕ, ◌-◌, ◌^◌, eqb}
-use Rattle.protocol.specs.Kinds.{Kind, Row, end, ◌·◌, chunk, i64, active, unsigned, string, specification, list_of}
+use Rattle.std.specs.Prelude.{Bool, true, false, ◌||◌, List, [], ◌∷◌, ℕ, ◌-◌, ◌^◌, eqb, get_or, Some, None}
+use Rattle.std.specs.declared.option.Option as code
+use Rattle.std.proofs.Math.Option.{Option, none, some}
+use Rattle.protocol.specs.Kinds.{Kind, Row, end, ◌·◌, list, plain, chunk, u8, u16, u32, u64, i64, active, T, T?, R, R?, B, B?, spec, spec₀, element_row, unsigned, string, specification, list_of}
 use Rattle.wire.specs.Integers.{width_of}
 use Rattle.protocol.specs.declared.kind.Element.{Element}
 use Rattle.protocol.specs.declared.kind.Element.TheVariants.{Message, FilteredMessage, PublishingId, PublishingError, Property, Name, CommandVersions, Broker, StreamMetadata, Statistic, BrokerReference}
@@ -17,10 +19,59 @@ kind_of (Specification admits_none) = specification admits_none
 kind_of (Listed k) = list_of k
 kind_of Chunk = chunk
 
+-- The same where there may be none.
+abbrev pub kind_said : code.Option FieldKind → Option Kind
+kind_said None = none
+kind_said (Some kind) = some (kind_of kind)
+
+-- The kinds by their numbers, from 0 on, which is no kind's.
+unfoldable pub kinds : List (Option Kind)
+kinds =
+    none
+    ∷ some u8
+    ∷ some u16
+    ∷ some u32
+    ∷ some u64
+    ∷ some i64
+    ∷ some active
+    ∷ some T
+    ∷ some R
+    ∷ some B
+    ∷ some T?
+    ∷ some R?
+    ∷ some B?
+    ∷ some spec
+    ∷ some spec₀
+    ∷ some chunk
+    ∷ some (list plain (element_row Message))
+    ∷ some (list plain (element_row FilteredMessage))
+    ∷ some (list plain (element_row PublishingId))
+    ∷ some (list plain (element_row PublishingError))
+    ∷ some (list plain (element_row Property))
+    ∷ some (list plain (element_row Name))
+    ∷ some (list plain (element_row CommandVersions))
+    ∷ some (list plain (element_row Broker))
+    ∷ some (list plain (element_row StreamMetadata))
+    ∷ some (list plain (element_row Statistic))
+    ∷ some (list plain (element_row BrokerReference))
+    ∷ []
+
+abbrev pub numbered : ℕ → Option Kind
+numbered n = get_or kinds n none
+
+-- A kind in front of a row.
+abbrev pub front : Option Kind → Row → Row
+front none row = row
+front (some kind) row = kind · row
+
+-- The row of what stands for kinds. What stands for none is passed over.
+unfoldable pub row_by : {A : Type 0} → (A → Option Kind) → List A → Row
+row_by kind [] = end
+row_by kind (x ∷ xs) = front (kind x) (row_by kind xs)
+
 -- The row of a layout, and of a list's element.
-unfoldable pub row_from : List FieldKind → Row
-row_from [] = end
-row_from (kind ∷ kinds) = kind_of kind · row_from kinds
+abbrev pub row_from : List FieldKind → Row
+row_from kinds = row_by (λ kind. some (kind_of kind)) kinds
 
 -- The one kind of list that stands in an element: [u16].
 abbrev pub is_of_numbers : Element → Bool

@@ -7,7 +7,7 @@ use crate::field::{BROKER_REFERENCES, BYTES, I64, NULLABLE_TEXT, TEXT, U16, U32,
 use crate::kind::{Element, FieldKind};
 
 // The fields of an element, in wire order.
-#[tactic(auto, unfolding(crate::specs::Layouts::row_from))]
+#[tactic(auto, unfolding(crate::specs::Layouts::row_by))]
 pub fn element_fields(kind: Element) -> &'static [FieldKind]
     ensures row { row_from result.now ≡ element_row kind }
     ensures in_elements { All (λ k. is_in_elements k ≡ true) result.now }

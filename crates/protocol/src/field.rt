@@ -1,5 +1,8 @@
 // The kinds of field that a layout or a list's element has, each with its notation in 01 ("Numbers and text on the wire",
-// "Frame and keys").
+// "Frame and keys"); and the kinds by their numbers.
+ghost use Rattle.std.specs.Prelude.{◌≡◌};
+ghost use Rattle.protocol.specs.Layouts.{kind_said, numbered};
+
 use crate::kind::{Element, FieldKind, Form, ListKind, ListRule};
 use wire::Width;
 
@@ -106,3 +109,45 @@ pub const BROKER_REFERENCES: FieldKind = FieldKind::List(ListKind {
     element: Element::BrokerReference,
     rule: ListRule::PLAIN,
 });
+
+// Number 0 is no kind's.
+const NUMBERED: [Option<FieldKind>; 27] = [
+    None,
+    Some(U8),
+    Some(U16),
+    Some(U32),
+    Some(U64),
+    Some(I64),
+    Some(ACTIVE),
+    Some(TEXT),
+    Some(REFERENCE),
+    Some(BYTES),
+    Some(NULLABLE_TEXT),
+    Some(NULLABLE_REFERENCE),
+    Some(NULLABLE_BYTES),
+    Some(SPECIFICATION),
+    Some(SPECIFICATION_OR_NONE),
+    Some(CHUNK),
+    Some(MESSAGES),
+    Some(FILTERED_MESSAGES),
+    Some(PUBLISHING_IDS),
+    Some(PUBLISHING_ERRORS),
+    Some(PROPERTIES),
+    Some(NAMES),
+    Some(COMMAND_VERSIONS),
+    Some(BROKERS),
+    Some(STREAMS),
+    Some(STATISTICS),
+    Some(BROKER_REFERENCES),
+];
+
+// The kind of field that a number stands for, if it stands for one.
+pub fn field_kind(number: u8) -> Option<FieldKind>
+    ensures { kind_said result ≡ numbered number }
+{
+    let number = number as usize;
+    if NUMBERED.len() <= number {
+        return None;
+    }
+    NUMBERED[number]
+}

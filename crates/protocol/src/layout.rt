@@ -32,7 +32,7 @@ pub fn layout_of(key: u16, version: u16) -> Result<&'static [FieldKind], Refusal
 }
 
 // One decision over all 65,536 keys; the ranges are those that no layout has.
-#[tactic(auto, unfolding(crate::specs::Layouts::row_from, crate::specs::Table::table, crate::specs::Decision::versions_in))]
+#[tactic(auto, unfolding(crate::specs::Layouts::row_by, crate::specs::Table::table, crate::specs::Decision::versions_in))]
 fn layouts_of(key: u16) -> Option<Layouts>
     ensures { listed_of key result ≡ listings key }
 {

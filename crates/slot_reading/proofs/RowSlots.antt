@@ -7,18 +7,15 @@ use Prim.Native.Nat.{ℕ, ◌+◌, ◌-◌, ◌^◌, ◌<◌, ◌≤◌}
 use Rattle.std.specs.Prelude.{min}
 use native.Mathlib.Omega.{arith}
 use lib.Dec.{leb, lit≤}
-use lib.ListN.{length, length-append, drop, get_or}
-use lib.Seq.{drop-cons, drop-length, take_all}
-use native.Mathlib.Numerals.{add-one}
+use lib.ListN.{length, length-append}
+use lib.Seq.{take_all}
 use borrow.Author.Tests.{leb-true, leb-false, lt-ltb, le-ltb}
 use Rattle.protocol.specs.Fields.{Field, bytes_at, further, outside, over_places}
 use Rattle.protocol.specs.Kinds.{Kind, Row, end, ◌·◌, element_row}
-use Rattle.protocol.specs.Layouts.{kind_of, row_from}
 use Rattle.protocol.specs.Refusals.{bytes_left, field_cut}
 use Rattle.std.specs.Prelude.{Ok, Err}
 use Rattle.protocol.specs.declared.kind.Element.{Element}
 use Rattle.protocol.specs.declared.kind.Element.TheVariants.{Message, FilteredMessage, PublishingId, PublishingError, Property, Name, CommandVersions, Broker, StreamMetadata, Statistic, BrokerReference}
-use Rattle.protocol.specs.declared.kind.FieldKind.{FieldKind}
 use Rattle.protocol.specs.declared.place.Place.{Place}
 use Rattle.rules.specs.Outcome.{Outcome, got, refused, then}
 use Rattle.rules.specs.Reading.{read_content, read_field, read_row}
@@ -74,40 +71,33 @@ module _ (base : ℕ) (s : List ℕ) where
   unfolding read_row
   row_refused kind row at fault i = rw (refused_at (read_field kind s at) fault i)
 
--- A loop over the kinds of a row.
-module _ (base : ℕ) (s : List ℕ) (fields : List FieldKind) (i at : ℕ) where
-  abbrev rest : ℕ → Row
-  rest j = row_from (drop j fields)
+-- A loop over the kinds of a row: what is left of it, from a place on.
+module _ (base : ℕ) (s : List ℕ) (left : Row) (at : ℕ) where
+  module _ (kind : Kind) (behind : Row) (e : left ≡ kind · behind) where
+    pub one_refused : (fault : Fault) → told (Err fault) ≡ stop (read_field kind s at) → told (Err fault) ≡ stop (read_row left s at)
+    one_refused fault r = rw e (row_refused base s kind behind at fault r)
 
-  module _ (d : FieldKind) (l : i < length fields) where
-    next_row : rest i ≡ kind_of (get_or fields i d) · rest (i + 1)
-    unfolding row_from
-    next_row = rw (add-one, drop-cons fields i d l)
-
-    pub one_refused : (fault : Fault) → told (Err fault) ≡ stop (read_field (kind_of (get_or fields i d)) s at) → told (Err fault) ≡ stop (read_row (rest i) s at)
-    one_refused fault e = rw next_row (row_refused base s (kind_of (get_or fields i d)) (rest (i + 1)) at fault e)
-
-    module _ (next : ℕ) (e : told (Ok next) ≡ stop (read_field (kind_of (get_or fields i d)) s at)) where
-      pub one_stops : stop (read_row (rest (i + 1)) s next) ≡ stop (read_row (rest i) s at)
-      one_stops = rw next_row (row_stops base s (kind_of (get_or fields i d)) (rest (i + 1)) at next e)
+    module _ (next : ℕ) (r : told (Ok next) ≡ stop (read_field kind s at)) where
+      pub one_stops : stop (read_row behind s next) ≡ stop (read_row left s at)
+      one_stops = rw e (row_stops base s kind behind at next r)
 
       -- The slots after the field are those of what is left, or lie behind the last one.
-      pub one_fills : (now new : List ℕ) (slot n after : ℕ) → new ≡ field_slots base (kind_of (get_or fields i d)) (read_field (kind_of (get_or fields i d)) s at) now slot → n ≡ slots_of (kind_of (get_or fields i d)) → after ≡ min (slot + n) (2 ^ 64 - 1) → length new < 0x1_0000_0000_0000_0000 → Continues base s (rest (i + 1)) next new after (rest i) at now slot
+      pub one_fills : (now new : List ℕ) (slot n after : ℕ) → new ≡ field_slots base kind (read_field kind s at) now slot → n ≡ slots_of kind → after ≡ min (slot + n) (2 ^ 64 - 1) → length new < 0x1_0000_0000_0000_0000 → Continues base s behind next new after left at now slot
       one_fills now new slot n after p m q short more f =
-          rw next_row (row_fills base s (kind_of (get_or fields i d)) (rest (i + 1)) at next e now new slot n p m more (by (leb (slot + n) 0xffff_ffff_ffff_ffff) refl))
+          rw e (row_fills base s kind behind at next r now new slot n p m more (by (leb (slot + n) 0xffff_ffff_ffff_ffff) refl))
         where
-          by : (t : Bool) → leb (slot + n) 0xffff_ffff_ffff_ffff ≡ t → Filled base (rest (i + 1)) (read_row (rest (i + 1)) s next) new (slot + n) more
+          by : (t : Bool) → leb (slot + n) 0xffff_ffff_ffff_ffff ≡ t → Filled base behind (read_row behind s next) new (slot + n) more
           by true h = let k : after ≡ slot + n = omega (arith, q, leb-true _ _ h) in rw (← k) f
-          by false h = let g = leb-false _ _ h in fills_behind base s (rest (i + 1)) (read_row (rest (i + 1)) s next) new after (slot + n) more (omega (arith, q, g, short)) (omega (arith, g, short)) f
+          by false h = let g = leb-false _ _ h in fills_behind base s behind (read_row behind s next) new after (slot + n) more (omega (arith, q, g, short)) (omega (arith, g, short)) f
 
-  module _ (l : i ≡ length fields) where
-    pub none_stops : told (Ok at) ≡ stop (read_row (rest i) s at)
-    unfolding row_from read_row
-    none_stops = rw (l, drop-length fields)
+  module _ (e : left ≡ end) where
+    pub none_stops : told (Ok at) ≡ stop (read_row left s at)
+    unfolding read_row
+    none_stops = rw e
 
-    pub none_fills : (now : List ℕ) (slot : ℕ) → Filled base (rest i) (read_row (rest i) s at) now slot now
-    unfolding row_from read_row
-    none_fills now slot = rw (l, drop-length fields) (sym (overlaid_none now slot))
+    pub none_fills : (now : List ℕ) (slot : ℕ) → Filled base left (read_row left s at) now slot now
+    unfolding read_row
+    none_fills now slot = rw e (sym (overlaid_none now slot))
 
 -- Of a row that is refused nothing is said.
 pub refused_filled : (base : ℕ) (row : Row) (s : List ℕ) (start : ℕ) (fault : Fault) (old : List ℕ) (first : ℕ) (new : List ℕ) → told (Err fault) ≡ stop (read_row row s start) → Filled base row (read_row row s start) old first new

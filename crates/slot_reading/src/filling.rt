@@ -4,7 +4,7 @@ ghost use Rattle.wire.specs.Integers.{width_of};
 ghost use Rattle.protocol.specs.Fields.{place};
 ghost use Rattle.protocol.specs.Kinds.{list_of, unsigned, specification};
 ghost use Rattle.protocol.specs.Kinds as K;
-ghost use Rattle.protocol.specs.Layouts.{kind_of, row_from};
+ghost use Rattle.protocol.specs.Layouts.{kind_of, row_by};
 ghost use Rattle.rules.specs.Reading.{header_at, read_field, read_row};
 ghost use Rattle.byte_strings.specs.Stops.{stop, told};
 ghost use Rattle.slots.specs.Flat.{flat_header, flat_place, overlaid};
@@ -15,7 +15,7 @@ use chunks::chunk_end;
 use fields::{largest, specification_end, unsigned_end};
 use lists::list_end;
 use number_lists::count_at;
-use protocol::{FieldKind, Form, ListKind};
+use protocol::{FieldKind, Form, LayoutField, ListKind};
 use slots::{NULL_LENGTH, put_slots, slots_of, widened8, widened32};
 use wire::Width;
 
@@ -37,22 +37,25 @@ impl<const N: usize> Filling<N> {
         put_slots(&mut self.slots[..], self.next, values);
     }
 
-    // The fields of a layout or of an element, in wire order, from a place on.
-    pub(crate) fn read(
+    // The fields of a layout or of an element, in wire order, from a place on. What is no field is passed over.
+    pub(crate) fn read<F: LayoutField>(
         &mut self,
         s: &[u8],
         start: usize,
-        fields: &[FieldKind],
+        fields: &[F],
     ) -> Result<usize, Fault>
         requires { self.old.base + length s.now < 0x1_0000_0000_0000_0000 }
-        ensures value { told result ≡ stop (read_row (row_from fields.now) s.now start) }
-        ensures filled { Filled self.old.base (row_from fields.now) (read_row (row_from fields.now) s.now start) self.old.slots self.old.next self.new.slots }
+        ensures value { told result ≡ stop (read_row (row_by F.stands_for fields.now) s.now start) }
+        ensures filled { Filled self.old.base (row_by F.stands_for fields.now) (read_row (row_by F.stands_for fields.now) s.now start) self.old.slots self.old.next self.new.slots }
     {
         let mut at = start;
-        for kind in fields {
-            at = self.read_field(s, at, *kind)?;
+        for field in fields {
+            let Some(kind) = field.kind() else {
+                continue;
+            };
+            at = self.read_field(s, at, kind)?;
             // Behind the last slot one place is as another.
-            self.next = self.next.saturating_add(slots_of(*kind));
+            self.next = self.next.saturating_add(slots_of(Some(kind)));
         }
         Ok(at)
     }

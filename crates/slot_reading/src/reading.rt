@@ -1,7 +1,7 @@
 // Fields read into their slots.
 ghost use Rattle.std.specs.Prelude.{◌≡◌};
 ghost use Rattle.protocol.specs.Kinds.{element_row};
-ghost use Rattle.protocol.specs.Layouts.{row_from};
+ghost use Rattle.protocol.specs.Layouts.{row_by};
 ghost use Rattle.rules.specs.Reading.{read_content};
 ghost use Rattle.byte_strings.specs.Stops.{stop, told};
 ghost use Rattle.slot_reading.specs.Reading.{element_in, content_slots, element_slots};
@@ -9,18 +9,18 @@ ghost use Rattle.slot_reading.specs.Reading.{element_in, content_slots, element_
 use crate::filling::Filling;
 use byte_strings::Fault;
 use fields::is_outside;
-use protocol::{Element, FieldKind, Place, Refusal, element_fields};
+use protocol::{Element, LayoutField, Place, Refusal, element_fields};
 
 // A content by its fields, then 11 if bytes are left. Only a content that is read changes the slots.
-pub fn read_content(
+pub fn read_content<F: LayoutField>(
     s: &[u8],
     key: u16,
     version: u16,
-    fields: &[FieldKind],
+    fields: &[F],
     slots: &mut [u64; 24],
 ) -> Result<usize, Fault>
-    ensures value { told result ≡ stop (read_content (row_from fields.now) s.now) }
-    ensures slots_after { slots.new ≡ content_slots key version (row_from fields.now) (read_content (row_from fields.now) s.now) slots.old }
+    ensures value { told result ≡ stop (read_content (row_by F.stands_for fields.now) s.now) }
+    ensures slots_after { slots.new ≡ content_slots key version (row_by F.stands_for fields.now) (read_content (row_by F.stands_for fields.now) s.now) slots.old }
 {
     let mut first = [0u64; 24];
     first[0] = key as u64;

@@ -1,29 +1,31 @@
 -- The fields of a layout are written one after another, each from the slots behind those of the fields in front of it. Assumes nothing.
 use mathlib.Core.Path.{◌≡◌, refl, ◌∙◌, sym, ap}
 use mathlib.Core.Bool.{Bool, true, false, cond}
-use mathlib.Core.List.{List, ◌∷◌, ◌++◌}
+use mathlib.Core.List.{List, ◌++◌}
 use Prim.Native.Nat.{ℕ, ◌+◌, ◌<◌, ◌≤◌, min}
 use native.Mathlib.Omega.{arith}
-use native.Mathlib.Numerals.{add-one}
 use lib.Dec.{ltb}
-use lib.ListN.{length, get_or, drop, length-append}
-use lib.Seq.{drop-cons, drop-length}
+use lib.ListN.{length, drop, length-append}
 use borrow.Author.Tests.{le-ltb, ltb-true, ltb-false}
 use Rattle.std.specs.Prelude.{Ok, Err}
 use Rattle.wire.specs.Buffer.{Holds}
-use Rattle.protocol.specs.Kinds.{Kind}
-use Rattle.protocol.specs.Layouts.{kind_of, row_from}
-use Rattle.protocol.specs.declared.kind.FieldKind.{FieldKind}
+use Rattle.protocol.specs.Kinds.{Kind, Row, end, ◌·◌}
+use Rattle.protocol.specs.Refusals.{number_of}
 use Rattle.protocol.specs.declared.refusal.Refusal.{Refusal}
-use Rattle.rules.specs.Writing.{Encoding, wrote, refuse, followed, write_field, write_row}
-use Rattle.fields.specs.Passes.{length_told, measured, measured_from, bound, capped, put_field, put_row}
+use Rattle.rules.specs.Writing.{Encoding, wrote, refuse, refusal, followed, write_field, write_row}
+use Rattle.rules.specs.Writing as W
+use Rattle.byte_strings.specs.Stops.{Stop, stop_at}
+use Rattle.fields.specs.Passes.{length_told, measured, measured_from, measured_row, bound, capped, counted, put_field, put_row}
 use Rattle.slots.specs.Unflat.{slots_of, unflat_field, unflat_row}
 
-abbrev pub write_slots : List FieldKind → List ℕ → List ℕ → Encoding
-write_slots fields src s = write_row (row_from fields) src (unflat_row (row_from fields) s)
+abbrev pub write_slots : Row → List ℕ → List ℕ → Encoding
+write_slots row src s = write_row row src (unflat_row row s)
 
-abbrev pub put_slots : List FieldKind → List ℕ → List ℕ → Holds → Holds
-put_slots fields src s h = put_row (row_from fields) src (unflat_row (row_from fields) s) h
+abbrev pub measure_slots : ℕ → Row → List ℕ → List ℕ → Stop
+measure_slots at row src s = measured_row at row src (unflat_row row s)
+
+abbrev pub put_slots : Row → List ℕ → List ℕ → Holds → Holds
+put_slots row src s h = put_row row src (unflat_row row s) h
 
 -- ---- Measured lengths
 
@@ -82,35 +84,48 @@ module _ (e rest : Encoding) (size : ℕ) where
       by (wrote b) i = cc
       by (refuse k) i = i
 
+-- What measuring one field says of where measuring the row stops.
+next_counted : (e : Encoding) (size n m : ℕ) (rest : ℕ → Stop) → length_told (Ok n) ≡ measured e → m ≡ capped (size + n) → rest m ≡ counted size e rest
+next_counted (wrote b) size n m rest i j = let l : n ≡ length b = cc in ap rest (j ∙ ap (λ k. capped (size + k)) l)
+next_counted (refuse k) size n m rest i j = cc
+
+stops_there : (e : Encoding) (size : ℕ) (r : Refusal) (rest : ℕ → Stop) → length_told (Err r) ≡ measured e → stop_at size (number_of r) ≡ counted size e rest
+stops_there (wrote b) size r rest i = cc
+stops_there (refuse k) size r rest i = let l : number_of r ≡ k = cc in ap (stop_at size) l
+
 -- ---- Rows
 
-module _ (fields : List FieldKind) (src s : List ℕ) (i : ℕ) where
-  module _ (d : FieldKind) (h : i < length fields) where
-    abbrev kind : Kind
-    kind = kind_of (get_or fields i d)
+-- What is left of a row, whose slots these are.
+module _ (left : Row) (src s : List ℕ) where
+  module _ (kind : Kind) (behind : Row) (e : left ≡ kind · behind) where
+    module _ (size n m : ℕ) (o : length_told (Ok n) ≡ measured (write_field kind src (unflat_field kind s))) (j : m ≡ capped (size + n)) where
+      pub measures_next : measured_from m (write_slots behind src (drop (slots_of kind) s)) ≡ measured_from size (write_slots left src s)
+      measures_next = rw e (first_counted (write_field kind src (unflat_field kind s)) (write_slots behind src (drop (slots_of kind) s)) size n m o j)
 
-    from_here : drop i fields ≡ get_or fields i d ∷ drop (i + 1) fields
-    from_here = rw (add-one, drop-cons fields i d h)
+      pub stops_next : measure_slots m behind src (drop (slots_of kind) s) ≡ measure_slots size left src s
+      unfolding measured_row
+      stops_next = rw e (next_counted (write_field kind src (unflat_field kind s)) size n m (λ at. measure_slots at behind src (drop (slots_of kind) s)) o j)
 
-    row_written : write_slots (drop i fields) src s ≡ followed (write_field kind src (unflat_field kind s)) (write_slots (drop (i + 1) fields) src (drop (slots_of kind) s))
-    unfolding row_from
-    row_written = rw from_here
+    module _ (size : ℕ) (r : Refusal) (o : length_told (Err r) ≡ measured (write_field kind src (unflat_field kind s))) where
+      pub measure_refused : refusal (number_of r) ≡ measured_from size (write_slots left src s)
+      measure_refused = rw e (first_refused (write_field kind src (unflat_field kind s)) (write_slots behind src (drop (slots_of kind) s)) size r o)
 
-    pub measures_next : (size n m : ℕ) → length_told (Ok n) ≡ measured (write_field kind src (unflat_field kind s)) → m ≡ capped (size + n) → measured_from m (write_slots (drop (i + 1) fields) src (drop (slots_of kind) s)) ≡ measured_from size (write_slots (drop i fields) src s)
-    measures_next size n m e f = first_counted (write_field kind src (unflat_field kind s)) (write_slots (drop (i + 1) fields) src (drop (slots_of kind) s)) size n m e f ∙ ap (measured_from size) (sym row_written)
+      pub stops_here : stop_at size (number_of r) ≡ measure_slots size left src s
+      unfolding measured_row
+      stops_here = rw e (stops_there (write_field kind src (unflat_field kind s)) size r (λ at. measure_slots at behind src (drop (slots_of kind) s)) o)
 
-    pub measure_refused : (size : ℕ) (r : Refusal) → length_told (Err r) ≡ measured (write_field kind src (unflat_field kind s)) → length_told (Err r) ≡ measured_from size (write_slots (drop i fields) src s)
-    measure_refused size r e = first_refused (write_field kind src (unflat_field kind s)) (write_slots (drop (i + 1) fields) src (drop (slots_of kind) s)) size r e ∙ ap (measured_from size) (sym row_written)
+    pub puts_next : (g h : Holds) → h ≡ put_field kind src (unflat_field kind s) g → put_slots behind src (drop (slots_of kind) s) h ≡ put_slots left src s g
+    unfolding put_row
+    puts_next g h p = rw (e, p)
 
-    pub puts_next : (g h : Holds) → h ≡ put_field kind src (unflat_field kind s) g → put_slots (drop (i + 1) fields) src (drop (slots_of kind) s) h ≡ put_slots (drop i fields) src s g
-    unfolding row_from put_row
-    puts_next g h e = rw (from_here, e)
+  module _ (e : left ≡ end) where
+    pub all_measured : (size : ℕ) → size ≤ bound → W.length size ≡ measured_from size (write_slots left src s)
+    all_measured size l = let z : size + 0 ≡ size = omega arith in rw (e, z, capped_exact size l)
 
-  module _ (h : i ≡ length fields) where
-    pub all_measured : (size : ℕ) → size ≤ bound → length_told (Ok size) ≡ measured_from size (write_slots (drop i fields) src s)
-    unfolding row_from
-    all_measured size l = let e : size + 0 ≡ size = omega arith in rw (h, drop-length fields, e, capped_exact size l)
+    pub all_stops : (size : ℕ) → stop_at size 0 ≡ measure_slots size left src s
+    unfolding measured_row
+    all_stops size = rw e
 
-    pub all_put : (g : Holds) → put_slots (drop i fields) src s g ≡ g
-    unfolding row_from put_row
-    all_put g = rw (h, drop-length fields)
+    pub all_put : (g : Holds) → put_slots left src s g ≡ g
+    unfolding put_row
+    all_put g = rw e

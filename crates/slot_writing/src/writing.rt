@@ -1,52 +1,65 @@
 // Fields written from their slots.
 ghost use Rattle.std.specs.Prelude.{◌≡◌};
 ghost use Rattle.wire.specs.Buffer.{holds};
-ghost use Rattle.protocol.specs.Layouts.{kind_of, row_from};
+ghost use Rattle.protocol.specs.Layouts.{kind_of, row_by};
 ghost use Rattle.rules.specs.Writing.{write_field, write_row, write_offset};
-ghost use Rattle.fields.specs.Passes.{length_told, measured, measured_from, put_field, put_row, put_offset};
+ghost use Rattle.byte_strings.specs.Stops.{told};
+ghost use Rattle.fields.specs.Passes.{length_said, length_told, measured, measured_from, measured_row, put_field, put_row, put_offset};
 ghost use Rattle.slots.specs.Unflat.{unflat_field, unflat_offset, unflat_row};
 
 use crate::chunk::{measure_chunk, put_chunk};
+use byte_strings::Fault;
 use fields::{
     measure_active, measure_nullable, measure_number, measure_offset, measure_string, put_nullable,
     put_offset, put_string,
 };
 use lists::{measure_list, put_list};
-use protocol::{FieldKind, OffsetSpecification, Refusal};
+use protocol::{FieldKind, LayoutField, OffsetSpecification, Refusal};
 use slots::{list_of, nullable_of, offset_of, place_of, slot, slots_behind};
 use wire::Width;
 
-// The length of a layout's fields, whose slots these are, with so many bytes in front of them.
-pub fn measure_fields(
+// The length of a layout's fields, whose slots these are, with so many bytes in front of them. A refusal has the length in front of
+// the field that is refused. What is no field is passed over.
+pub fn measure_fields<F: LayoutField>(
     start: usize,
     src: &[u8],
     slots: &[u64],
-    fields: &[FieldKind],
-) -> Result<usize, Refusal>
-    ensures { length_told result ≡ measured_from start (write_row (row_from fields.now) src.now (unflat_row (row_from fields.now) slots.now)) }
+    fields: &[F],
+) -> Result<usize, Fault>
+    ensures value { told result ≡ measured_row start (row_by F.stands_for fields.now) src.now (unflat_row (row_by F.stands_for fields.now) slots.now) }
+    ensures length { length_said result ≡ measured_from start (write_row (row_by F.stands_for fields.now) src.now (unflat_row (row_by F.stands_for fields.now) slots.now)) }
 {
     let mut size = start;
     let mut rest = slots;
-    for &kind in fields {
-        size = size.saturating_add(measure_field(src, rest, kind)?);
+    for field in fields {
+        let Some(kind) = field.kind() else {
+            continue;
+        };
+        match measure_field(src, rest, kind) {
+            Ok(len) => size = size.saturating_add(len),
+            Err(refusal) => return Err(Fault { refusal, at: size }),
+        }
         rest = slots_behind(rest, kind);
     }
     Ok(size)
 }
 
 // These fields, put at a place. Answers the place behind them.
-pub fn put_fields(
+pub fn put_fields<F: LayoutField>(
     out: &mut [u8],
     start: usize,
     src: &[u8],
     slots: &[u64],
-    fields: &[FieldKind],
+    fields: &[F],
 ) -> usize
-    ensures { holds out.new result ≡ put_row (row_from fields.now) src.now (unflat_row (row_from fields.now) slots.now) (holds out.old start) }
+    ensures { holds out.new result ≡ put_row (row_by F.stands_for fields.now) src.now (unflat_row (row_by F.stands_for fields.now) slots.now) (holds out.old start) }
 {
     let mut at = start;
     let mut rest = slots;
-    for &kind in fields {
+    for field in fields {
+        let Some(kind) = field.kind() else {
+            continue;
+        };
         at = put_field(out, at, src, rest, kind);
         rest = slots_behind(rest, kind);
     }

@@ -64,6 +64,11 @@ slots_of (specification admits_none) = 2
 slots_of (list rule row) = 3
 slots_of chunk = 14
 
+-- Of no field, none.
+abbrev pub slots_for : Option Kind → ℕ
+slots_for none = 0
+slots_for (some kind) = slots_of kind
+
 -- Of a row.
 abbrev pub slots_in : Row → ℕ
 slots_in end = 0

@@ -2,7 +2,7 @@
 ghost use Rattle.std.specs.Prelude.{true, [], ◌∷◌, ◌++◌, ◌≡◌, ◌≤◌, get_or, drop};
 ghost use Rattle.wire.specs.Signed.{signed};
 ghost use Rattle.protocol.specs.Frames.{nullable_field};
-ghost use Rattle.protocol.specs.Layouts.{kind_of};
+ghost use Rattle.protocol.specs.Layouts.{kind_of, kind_said};
 ghost use Rattle.slots.specs.Flat.{bits, flat_header, flat_octets, flat_offset, flat_place, not_null, overlaid, padded};
 ghost use Rattle.slots.specs.Inverse.{SignedHeader, SignedOffset};
 ghost use Rattle.slots.specs.Unflat as kinds;
@@ -13,16 +13,17 @@ use wire::Unsigned;
 // The length of a null, whose place is 0.
 pub const NULL_LENGTH: usize = 0xffff_ffff_ffff_ffff;
 
-// How many slots a field of a kind takes.
-pub fn slots_of(kind: FieldKind) -> usize
-    ensures value { result ≡ kinds.slots_of (kind_of kind) }
+// How many slots a field of a kind takes. What is no field takes none.
+pub fn slots_of(kind: Option<FieldKind>) -> usize
+    ensures value { result ≡ kinds.slots_for (kind_said kind) }
     ensures most { result ≤ 14 }
 {
     match kind {
-        FieldKind::Number(_) | FieldKind::Active | FieldKind::Signed => 1,
-        FieldKind::String { .. } | FieldKind::Specification { .. } => 2,
-        FieldKind::List(_) => 3,
-        FieldKind::Chunk => 14,
+        None => 0,
+        Some(FieldKind::Number(_) | FieldKind::Active | FieldKind::Signed) => 1,
+        Some(FieldKind::String { .. } | FieldKind::Specification { .. }) => 2,
+        Some(FieldKind::List(_)) => 3,
+        Some(FieldKind::Chunk) => 14,
     }
 }
 
@@ -30,7 +31,7 @@ pub fn slots_of(kind: FieldKind) -> usize
 pub fn slots_behind(slots: &[u64], kind: FieldKind) -> &[u64]
     ensures { result.now ≡ drop (kinds.slots_of (kind_of kind)) slots.now }
 {
-    &slots[slots_of(kind).min(slots.len())..]
+    &slots[slots_of(Some(kind)).min(slots.len())..]
 }
 
 // The slot at an index. Behind the last slot there is a 0.

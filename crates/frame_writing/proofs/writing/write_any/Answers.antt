@@ -18,8 +18,8 @@ unfolding write_flat unflat_frame
 returns-in_err-size c =
     let s = c.args.slots.now in
     let p = err_from_is_err_and c.from_residual-in_err-size.result c.from_residual-in_err-size.ensures.1 in
-    let m = content_measured s c.told-slots _ c.in_ok-fields.ensures.row c.args.src.now 4 _ c.in_err-size.ensures in
-    rw (p.1, p.2) (fields_refused (unflat_frame s) c.args.src.now c.args.limit c.args.out.now (is_listed s c.in_ok-fields.fields c.in_ok-fields.ensures.decision) c.in_err-size.field-0.0 m)
+    let m = content_measured s c.told-slots _ c.in_ok-fields.ensures.row c.args.src.now 4 _ c.in_err-size.ensures.length in
+    rw (p.1, p.2) (fields_refused (unflat_frame s) c.args.src.now c.args.limit c.args.out.now (is_listed s c.in_ok-fields.fields c.in_ok-fields.ensures.decision) c.in_err-size.field-0.0.refusal m)
 
 pub returns-in_err-check_size : goal.returns-in_err-check_size
 unfolding write_flat unflat_frame
@@ -27,7 +27,7 @@ returns-in_err-check_size c =
     let s = c.args.slots.now in
     let p = err_from_is_err_and c.from_residual-in_err-check_size.result c.from_residual-in_err-check_size.ensures.1 in
     let listed = is_listed s c.in_ok-fields.fields c.in_ok-fields.ensures.decision in
-    let m = content_measured s c.told-slots _ c.in_ok-fields.ensures.row c.args.src.now 4 _ c.in_ok-size.ensures in
+    let m = content_measured s c.told-slots _ c.in_ok-fields.ensures.row c.args.src.now 4 _ c.in_ok-size.ensures.length in
     let w = sized (unflat_frame s) c.args.src.now c.args.limit c.args.out.now listed c.in_ok-size.size m in
     rw (p.1, p.2) (size_refused (unflat_frame s) c.args.src.now c.args.limit c.args.out.now listed c.in_ok-size.size w _ c.in_err-check_size.ensures (some_number c.in_err-check_size.field-0.0))
 
@@ -40,7 +40,7 @@ returns c =
     let s = c.args.slots.now in
     let src = c.args.src.now in
     let listed = is_listed s c.in_ok-fields.fields c.in_ok-fields.ensures.decision in
-    let m = content_measured s c.told-slots _ c.in_ok-fields.ensures.row src 4 _ c.in_ok-size.ensures in
+    let m = content_measured s c.told-slots _ c.in_ok-fields.ensures.row src 4 _ c.in_ok-size.ensures.length in
     let w = sized (unflat_frame s) src c.args.limit c.args.out.now listed c.in_ok-size.size m in
     let fit = fits _ _ _ (sym c.in_ok-check_size.ensures) in
     let put = content_put s c.told-slots _ c.in_ok-fields.ensures.row src _ _ c.put_fields.ensures in

@@ -1,24 +1,39 @@
 -- One field, and those behind it.
 use Rattle.std.proofs.Common.{◌∙◌, arith}
-use Rattle.std.proofs.lemmas.Grind.{common_steps}
-use Rattle.slot_writing.proofs.Rows.{measures_next, measure_refused, all_measured, capped_min}
+use Rattle.protocol.proofs.LayoutRows.{kind_first, none_left, passed}
+use Rattle.slot_writing.proofs.Rows.{all_measured, all_stops, capped_min, measure_refused, measures_next, stops_here, stops_next}
 use Rattle.slot_writing.proofs.writing.measure_fields.Goals as goal
 
-pub returns-in_err-measure_field : goal.returns-in_err-measure_field
-returns-in_err-measure_field c =
-    let a = c.args in
-    let refused = measure_refused a.fields.now a.src.now c.loop-kind.rest.now c.loop-kind.kind-index _ c.loop-kind-test.true c.loop-kind.size c.in_err-measure_field.field-0.0 c.in_err-measure_field.ensures ∙ c.loop-kind.invariant.1 in
-    grind (arith, common_steps)
+pub loop-field-preserved-in_default : goal.loop-field-preserved-in_default
+loop-field-preserved-in_default g c =
+    rw (passed g.F.LayoutField.stands_for c.args.fields.now c.loop-field.field-index c.field-item.result c.field-item.is c.loop-field-test.true c.in_default.ensures) c.loop-field.invariant
 
-pub loop-kind-preserved : goal.loop-kind-preserved
-loop-kind-preserved c =
-    let a = c.args in (
-      omega (arith, c.saturating_add-size.type_inv),
-      rw c.slots_behind-rest.ensures
-          (measures_next a.fields.now a.src.now c.loop-kind.rest.now c.loop-kind.kind-index _ c.loop-kind-test.true c.loop-kind.size c.in_ok-measure_field.field-0 c.saturating_add-size.result c.in_ok-measure_field.ensures (c.saturating_add-size.ensures ∙ capped_min _) ∙ c.loop-kind.invariant.1),
-    )
+pub returns-in-Err-clause-value : goal.returns-in-Err-clause-value
+returns-in-Err-clause-value g c =
+    let e = kind_first g.F.LayoutField.stands_for c.args.fields.now c.loop-field.field-index c.field-item.result c.field-item.is c.loop-field-test.true _ c.in-Some.ensures in
+    stops_here _ c.args.src.now c.loop-field.rest.now _ _ e c.loop-field.size _ c.in-Err.ensures ∙ c.loop-field.invariant.stops
 
-pub returns : goal.returns
-returns c =
-    let a = c.args in
-    all_measured a.fields.now a.src.now c.loop-kind.rest.now c.loop-kind.kind-index (omega arith) c.loop-kind.size c.loop-kind.invariant.0 ∙ c.loop-kind.invariant.1
+pub returns-in-Err-clause-length : goal.returns-in-Err-clause-length
+returns-in-Err-clause-length g c =
+    let e = kind_first g.F.LayoutField.stands_for c.args.fields.now c.loop-field.field-index c.field-item.result c.field-item.is c.loop-field-test.true _ c.in-Some.ensures in
+    measure_refused _ c.args.src.now c.loop-field.rest.now _ _ e c.loop-field.size _ c.in-Err.ensures ∙ c.loop-field.invariant.length
+
+pub loop-field-preserved : goal.loop-field-preserved
+loop-field-preserved g c =
+    let e = kind_first g.F.LayoutField.stands_for c.args.fields.now c.loop-field.field-index c.field-item.result c.field-item.is c.loop-field-test.true _ c.in-Some.ensures in
+    let next = c.saturating_add-size.ensures ∙ capped_min _ in
+    record {
+      short = omega (arith, c.saturating_add-size.type_inv);
+      length = rw c.slots_behind-rest.ensures (measures_next _ c.args.src.now c.loop-field.rest.now _ _ e c.loop-field.size _ _ c.in-Ok.ensures next ∙ c.loop-field.invariant.length);
+      stops = rw c.slots_behind-rest.ensures (stops_next _ c.args.src.now c.loop-field.rest.now _ _ e c.loop-field.size _ _ c.in-Ok.ensures next ∙ c.loop-field.invariant.stops);
+    }
+
+pub returns-clause-value : goal.returns-clause-value
+returns-clause-value g c =
+    let e = none_left g.F.LayoutField.stands_for c.args.fields.now c.loop-field.field-index (omega arith) in
+    all_stops _ c.args.src.now c.loop-field.rest.now e c.loop-field.size ∙ c.loop-field.invariant.stops
+
+pub returns-clause-length : goal.returns-clause-length
+returns-clause-length g c =
+    let e = none_left g.F.LayoutField.stands_for c.args.fields.now c.loop-field.field-index (omega arith) in
+    all_measured _ c.args.src.now c.loop-field.rest.now e c.loop-field.size c.loop-field.invariant.short ∙ c.loop-field.invariant.length
