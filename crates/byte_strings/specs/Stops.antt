@@ -5,7 +5,8 @@ use Rattle.rules.specs.Outcome.{Outcome, got, refused}
 use Rattle.rules.specs.Writing.{Encoding, wrote, refuse}
 use Rattle.byte_strings.specs.declared.fault.Fault.{Fault}
 
--- After what was read, and then `refused` is 0; or at the place at fault, with the number of the refusal.
+-- After what was read, and then `refused` is 0; or at the place at fault, with the number of the refusal. For fields that are measured
+-- the place is a length.
 pub record Stop : Type 0 where
   pub at : ℕ
   pub refused : ℕ
@@ -18,7 +19,7 @@ abbrev pub stop : {A : Type 0} → Outcome A → Stop
 stop (got a next) = stop_at next 0
 stop (refused n at) = stop_at at n
 
--- Where a reader says that it stopped.
+-- Where a reader says that it stopped, or one that measures fields.
 abbrev pub told : Result ℕ Fault → Stop
 told (Ok next) = stop_at next 0
 told (Err fault) = stop_at fault.at (number_of fault.refusal)

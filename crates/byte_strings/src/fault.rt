@@ -1,4 +1,4 @@
-// Why something is not read.
+// Why something is not read, or not written.
 ghost use Rattle.std.specs.Prelude.{◌≡◌};
 
 use protocol::Refusal;
@@ -6,11 +6,11 @@ use protocol::Refusal;
 #[derive(Clone, Copy, Debug, PartialEq, Eq)]
 pub struct Fault {
     pub refusal: Refusal,
-    // The place at fault.
+    // The place at fault. Of a field that is not written it is the length in front of it.
     pub at: usize,
 }
 
-// A writer that goes through what it is lent has the refusal for an answer, and no place.
+// A writer answers with the refusal alone.
 impl From<Fault> for Refusal {
     ghost from_gives = { λ fault refusal. refusal ≡ fault.refusal };
 

@@ -9,12 +9,12 @@ use Prim.Native.Nat.{ℕ, zero, suc, ◌+◌, ◌-◌, ◌<◌, ◌≤◌}
 use native.Mathlib.Omega.{arith}
 use lib.Dec.{eqb, leb, ltb}
 use lib.ListN.{length, drop, get_or, replicate, take}
-use lib.Seq.{drop-length}
 use borrow.Author.Tests.{lt-ltb, eqb-true}
 use Rattle.wire.specs.Integers.{Bytes, big_endian}
 use Rattle.protocol.specs.Fields as F
 use Rattle.protocol.specs.Fields.{Field, bytes_at, further, outside, over_places, place}
-use Rattle.protocol.specs.Layouts.{kind_of, row_by, row_from}
+use Rattle.protocol.specs.Layouts.{kind_of, own_kind, row_from}
+use Rattle.protocol.proofs.LayoutRows.{row_ends}
 use Rattle.protocol.specs.Kinds.{Kind, unsigned, signed, string, specification, list, chunk, Row, end, ◌·◌}
 use Rattle.protocol.specs.Refusals.{field_cut, value_not_admitted}
 use Rattle.protocol.specs.declared.chunk.ChunkHeader.{ChunkHeader}
@@ -155,8 +155,7 @@ module _ (fields : List FieldKind) (slots : List ℕ) (i n : ℕ) (d : FieldKind
   field_reached y = rw (next_field fields slots d i 0 l, y)
 
 pub none_left : (fields : List FieldKind) (slots : List ℕ) (i n : ℕ) → i ≡ length fields → none ≡ Left (drop i fields) slots n
-unfolding row_by
-none_left fields slots i n l = rw (l, drop-length fields)
+none_left fields slots i n l = rw (row_ends own_kind fields i l)
 
 -- ---- An element that was asked for
 

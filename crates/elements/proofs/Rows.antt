@@ -4,9 +4,7 @@ use mathlib.Core.Path.{◌≡◌, refl}
 use mathlib.Core.List.{List, ◌∷◌}
 use Rattle.std.specs.Prelude.{Ok, Err}
 use Prim.Native.Nat.{ℕ, suc, ◌+◌, ◌-◌, ◌^◌, ◌<◌}
-use native.Mathlib.Numerals.{add-one}
 use lib.ListN.{length, get_or, drop}
-use lib.Seq.{drop-cons, drop-length}
 use Rattle.wire.specs.Integers.{Bytes, width_of}
 use Rattle.wire.specs.declared.integers.Width.{Width}
 use Rattle.wire.proofs.Widths.{positive}
@@ -14,7 +12,8 @@ use native.Mathlib.Omega.{arith}
 use Rattle.wire.specs.Signed as two's
 use Rattle.protocol.specs.Fields.{Field, integer, number}
 use Rattle.protocol.specs.Kinds.{Kind, Row, ◌·◌, unsigned, signed}
-use Rattle.protocol.specs.Layouts.{kind_of, row_by, row_from}
+use Rattle.protocol.specs.Layouts.{kind_of, own_kind, row_from}
+use Rattle.protocol.proofs.LayoutRows.{next, row_ends}
 use Rattle.protocol.specs.declared.kind.FieldKind.{FieldKind}
 use Rattle.protocol.specs.declared.kind.FieldKind.TheVariants.{Number}
 use Rattle.protocol.specs.declared.place.Place.{Place}
@@ -41,8 +40,7 @@ module _ (fields : List FieldKind) (s : List ℕ) where
     next_kind = kind_of (get_or fields i d)
 
     pub next_field : rest i ≡ next_kind · rest (i + 1)
-    unfolding row_by
-    next_field = rw (add-one, drop-cons fields i d l)
+    next_field = next own_kind fields i d l
 
     pub row_refused : (f : Fault) → told (Err f) ≡ stop (read_field next_kind s at) → told (Err f) ≡ stop (read_row (rest i) s at)
     unfolding read_row
@@ -55,8 +53,8 @@ module _ (fields : List FieldKind) (s : List ℕ) where
         rw (next_field, r.1) (in_front r.0 (read_row (rest (i + 1)) s next))
 
   pub row_ended : (i at : ℕ) → i ≡ length fields → told (Ok at) ≡ stop (read_row (rest i) s at)
-  unfolding row_by read_row
-  row_ended i at h = rw (h, drop-length fields)
+  unfolding read_row
+  row_ended i at h = rw (row_ends own_kind fields i h)
 
 -- ---- Numbers that fill their bytes end where their bytes do
 

@@ -24,10 +24,10 @@ abbrev pub length_told : Result ℕ Refusal → Written
 length_told (Ok n) = length n
 length_told (Err r) = refusal (number_of r)
 
--- The same where the refusal stands with a place.
-abbrev pub length_said : Result ℕ Fault → Written
-length_said (Ok n) = length n
-length_said (Err fault) = refusal (number_of fault.refusal)
+-- The same of a fault, whose place is left out.
+abbrev pub length_or_refusal : Result ℕ Fault → Written
+length_or_refusal (Ok n) = length_told (Ok n)
+length_or_refusal (Err fault) = length_told (Err fault.refusal)
 
 -- What measuring says of a field.
 abbrev pub measured : Encoding → Written
@@ -47,16 +47,17 @@ abbrev pub measured_from : ℕ → Encoding → Written
 measured_from at (wrote b) = length (capped (at + len b))
 measured_from at (refuse n) = refusal n
 
--- A field behind so many bytes: what is measured behind it; or the length in front of it, and the number that it is refused with.
-abbrev pub counted : ℕ → Encoding → (ℕ → Stop) → Stop
-counted at (wrote b) rest = rest (capped (at + len b))
-counted at (refuse n) rest = stop_at at n
+-- One field of a row: what follows is measured from the new length on; a refusal stops at the length in front of the field.
+abbrev pub measured_then : ℕ → Encoding → (ℕ → Stop) → Stop
+measured_then at (wrote b) rest = rest (capped (at + len b))
+measured_then at (refuse n) rest = stop_at at n
 
--- A row of fields in wire order, behind so many bytes: the length of all; or that in front of the first that is refused.
+-- Where measuring a row of fields stops that stand behind so many bytes: at the length of all, with 0; or at the length in front of
+-- the first field that is refused, with its number.
 unfoldable pub measured_row : ℕ → Row → List ℕ → List (Field Place) → Stop
 measured_row at end src fs = stop_at at 0
 measured_row at (kind · row) src [] = stop_at at 0
-measured_row at (kind · row) src (f ∷ fs) = counted at (write_field kind src f) (λ next. measured_row next row src fs)
+measured_row at (kind · row) src (f ∷ fs) = measured_then at (write_field kind src f) (λ next. measured_row next row src fs)
 
 -- ---- How each kind of field is put
 

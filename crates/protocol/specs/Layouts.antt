@@ -1,4 +1,4 @@
--- What the kinds of field in the code are, and the row of several, one after another.
+-- What the kinds of field in the code are, which one a number stands for, and the row of several, one after another.
 use Rattle.std.specs.Prelude.{Bool, true, false, ◌||◌, List, [], ◌∷◌, ℕ, ◌-◌, ◌^◌, eqb, get_or, Some, None}
 use Rattle.std.specs.declared.option.Option as code
 use Rattle.std.proofs.Math.Option.{Option, none, some}
@@ -24,7 +24,11 @@ abbrev pub kind_said : code.Option FieldKind → Option Kind
 kind_said None = none
 kind_said (Some kind) = some (kind_of kind)
 
--- The kinds by their numbers, from 0 on, which is no kind's.
+-- A kind stands for itself.
+abbrev pub own_kind : FieldKind → Option Kind
+own_kind kind = some (kind_of kind)
+
+-- The kinds by their numbers, which are the library's own and stand in no frame. 0 is no kind's; from 16 on they are the lists.
 unfoldable pub kinds : List (Option Kind)
 kinds =
     none
@@ -56,8 +60,9 @@ kinds =
     ∷ some (list plain (element_row BrokerReference))
     ∷ []
 
-abbrev pub numbered : ℕ → Option Kind
-numbered n = get_or kinds n none
+-- The kind that a number stands for.
+abbrev pub kind_numbered : ℕ → Option Kind
+kind_numbered n = get_or kinds n none
 
 -- A kind in front of a row.
 abbrev pub front : Option Kind → Row → Row
@@ -66,12 +71,12 @@ front (some kind) row = kind · row
 
 -- The row of what stands for kinds. What stands for none is passed over.
 unfoldable pub row_by : {A : Type 0} → (A → Option Kind) → List A → Row
-row_by kind [] = end
-row_by kind (x ∷ xs) = front (kind x) (row_by kind xs)
+row_by stands_for [] = end
+row_by stands_for (x ∷ xs) = front (stands_for x) (row_by stands_for xs)
 
 -- The row of a layout, and of a list's element.
 abbrev pub row_from : List FieldKind → Row
-row_from kinds = row_by (λ kind. some (kind_of kind)) kinds
+row_from fields = row_by own_kind fields
 
 -- The one kind of list that stands in an element: [u16].
 abbrev pub is_of_numbers : Element → Bool

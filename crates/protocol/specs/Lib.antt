@@ -6,6 +6,7 @@ pub mod Kinds
 pub mod Table
 pub mod TableFacts
 pub mod Layouts
+pub mod LayoutNumbers
 pub mod Decision
 pub mod Fields
 pub mod Frames

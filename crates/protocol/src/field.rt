@@ -1,7 +1,9 @@
 // The kinds of field that a layout or a list's element has, each with its notation in 01 ("Numbers and text on the wire",
-// "Frame and keys"); and the kinds by their numbers.
+// "Frame and keys"); and what may stand for them.
 ghost use Rattle.std.specs.Prelude.{◌≡◌};
-ghost use Rattle.protocol.specs.Layouts.{kind_said, numbered};
+ghost use Rattle.std.proofs.Math.Option.{Option};
+ghost use Rattle.protocol.specs.Kinds.{Kind};
+ghost use Rattle.protocol.specs.Layouts.{kind_numbered, kind_said, own_kind};
 
 use crate::kind::{Element, FieldKind, Form, ListKind, ListRule};
 use wire::Width;
@@ -110,8 +112,8 @@ pub const BROKER_REFERENCES: FieldKind = FieldKind::List(ListKind {
     rule: ListRule::PLAIN,
 });
 
-// Number 0 is no kind's.
-const NUMBERED: [Option<FieldKind>; 27] = [
+// The kinds by their numbers, which are the library's own and stand in no frame. 0 is no kind's.
+const KINDS: [Option<FieldKind>; 27] = [
     None,
     Some(U8),
     Some(U16),
@@ -128,6 +130,7 @@ const NUMBERED: [Option<FieldKind>; 27] = [
     Some(SPECIFICATION),
     Some(SPECIFICATION_OR_NONE),
     Some(CHUNK),
+    // The lists, from 16 on.
     Some(MESSAGES),
     Some(FILTERED_MESSAGES),
     Some(PUBLISHING_IDS),
@@ -143,11 +146,38 @@ const NUMBERED: [Option<FieldKind>; 27] = [
 
 // The kind of field that a number stands for, if it stands for one.
 pub fn field_kind(number: u8) -> Option<FieldKind>
-    ensures { kind_said result ≡ numbered number }
+    ensures { kind_said result ≡ kind_numbered number }
 {
     let number = number as usize;
-    if NUMBERED.len() <= number {
+    if KINDS.len() <= number {
         return None;
     }
-    NUMBERED[number]
+    KINDS[number]
+}
+
+// What stands in a layout for a kind of field: the kind itself, or its number. A number that is no kind's is passed over.
+pub trait LayoutField {
+    // The kind, if there is one.
+    ghost stands_for: { Self → Option Kind };
+
+    fn kind(&self) -> Option<FieldKind>
+        ensures { kind_said result ≡ stands_for self.now };
+}
+
+impl LayoutField for FieldKind {
+    ghost stands_for = { own_kind };
+
+    // A loop over kinds then has no test of whether there is one.
+    #[inline(always)]
+    fn kind(&self) -> Option<FieldKind> {
+        Some(*self)
+    }
+}
+
+impl LayoutField for u8 {
+    ghost stands_for = { kind_numbered };
+
+    fn kind(&self) -> Option<FieldKind> {
+        field_kind(*self)
+    }
 }

@@ -1,10 +1,7 @@
 // What kinds of field there are, and what kinds of byte string, of list and of list element.
 ghost use Rattle.std.specs.Prelude.{◌≡◌};
-ghost use Rattle.std.proofs.Math.Option.{Option, some};
-ghost use Rattle.protocol.specs.Kinds.{Kind, plain_list};
-ghost use Rattle.protocol.specs.Layouts.{kind_of, kind_said, numbered};
+ghost use Rattle.protocol.specs.Kinds.{plain_list};
 
-use crate::field::field_kind;
 use wire::Width;
 
 // A kind of field.
@@ -20,31 +17,6 @@ pub enum FieldKind {
     Specification { admits_none: bool },
     List(ListKind),
     Chunk,
-}
-
-// What stands in a layout for a kind of field: the kind itself, or a number, which may stand for none.
-pub trait LayoutField {
-    ghost stands_for: { Self → Option Kind };
-
-    fn kind(&self) -> Option<FieldKind>
-        ensures { kind_said result ≡ stands_for self.now };
-}
-
-impl LayoutField for FieldKind {
-    ghost stands_for = { λ kind. some (kind_of kind) };
-
-    #[inline(always)]
-    fn kind(&self) -> Option<FieldKind> {
-        Some(*self)
-    }
-}
-
-impl LayoutField for u8 {
-    ghost stands_for = { numbered };
-
-    fn kind(&self) -> Option<FieldKind> {
-        field_kind(*self)
-    }
 }
 
 // A byte string's form: text T, a reference R (text of at most 256 bytes), or bytes B.

@@ -14,11 +14,9 @@ mod response_code;
 
 pub use chunk::{Chunk, ChunkHeader};
 pub use element::element_fields;
-pub use field::field_kind;
+pub use field::{LayoutField, field_kind};
 pub use frame::Frame;
-pub use kind::{
-    Element, FieldKind, Form, Keys, LayoutField, ListKind, ListRule, Presence, plain_list,
-};
+pub use kind::{Element, FieldKind, Form, Keys, ListKind, ListRule, Presence, plain_list};
 pub use layout::layout_of;
 pub use offset::OffsetSpecification;
 pub use place::{Elements, Place};

@@ -73,22 +73,22 @@ module _ (base : ℕ) (s : List ℕ) where
 
 -- A loop over the kinds of a row: what is left of it, from a place on.
 module _ (base : ℕ) (s : List ℕ) (left : Row) (at : ℕ) where
-  module _ (kind : Kind) (behind : Row) (e : left ≡ kind · behind) where
+  module _ (kind : Kind) (row : Row) (e : left ≡ kind · row) where
     pub one_refused : (fault : Fault) → told (Err fault) ≡ stop (read_field kind s at) → told (Err fault) ≡ stop (read_row left s at)
-    one_refused fault r = rw e (row_refused base s kind behind at fault r)
+    one_refused fault r = rw e (row_refused base s kind row at fault r)
 
     module _ (next : ℕ) (r : told (Ok next) ≡ stop (read_field kind s at)) where
-      pub one_stops : stop (read_row behind s next) ≡ stop (read_row left s at)
-      one_stops = rw e (row_stops base s kind behind at next r)
+      pub one_stops : stop (read_row row s next) ≡ stop (read_row left s at)
+      one_stops = rw e (row_stops base s kind row at next r)
 
-      -- The slots after the field are those of what is left, or lie behind the last one.
-      pub one_fills : (now new : List ℕ) (slot n after : ℕ) → new ≡ field_slots base kind (read_field kind s at) now slot → n ≡ slots_of kind → after ≡ min (slot + n) (2 ^ 64 - 1) → length new < 0x1_0000_0000_0000_0000 → Continues base s behind next new after left at now slot
+      -- The slots after the field are those of what is left, or lie row the last one.
+      pub one_fills : (now new : List ℕ) (slot n after : ℕ) → new ≡ field_slots base kind (read_field kind s at) now slot → n ≡ slots_of kind → after ≡ min (slot + n) (2 ^ 64 - 1) → length new < 0x1_0000_0000_0000_0000 → Continues base s row next new after left at now slot
       one_fills now new slot n after p m q short more f =
-          rw e (row_fills base s kind behind at next r now new slot n p m more (by (leb (slot + n) 0xffff_ffff_ffff_ffff) refl))
+          rw e (row_fills base s kind row at next r now new slot n p m more (by (leb (slot + n) 0xffff_ffff_ffff_ffff) refl))
         where
-          by : (t : Bool) → leb (slot + n) 0xffff_ffff_ffff_ffff ≡ t → Filled base behind (read_row behind s next) new (slot + n) more
+          by : (t : Bool) → leb (slot + n) 0xffff_ffff_ffff_ffff ≡ t → Filled base row (read_row row s next) new (slot + n) more
           by true h = let k : after ≡ slot + n = omega (arith, q, leb-true _ _ h) in rw (← k) f
-          by false h = let g = leb-false _ _ h in fills_behind base s behind (read_row behind s next) new after (slot + n) more (omega (arith, q, g, short)) (omega (arith, g, short)) f
+          by false h = let g = leb-false _ _ h in fills_behind base s row (read_row row s next) new after (slot + n) more (omega (arith, q, g, short)) (omega (arith, g, short)) f
 
   module _ (e : left ≡ end) where
     pub none_stops : told (Ok at) ≡ stop (read_row left s at)

@@ -37,7 +37,7 @@ impl<const N: usize> Filling<N> {
         put_slots(&mut self.slots[..], self.next, values);
     }
 
-    // The fields of a layout or of an element, in wire order, from a place on. What is no field is passed over.
+    // The fields of a layout or of an element, in wire order, from a place on.
     pub(crate) fn read<F: LayoutField>(
         &mut self,
         s: &[u8],

@@ -12,10 +12,9 @@ use Rattle.wire.specs.Buffer.{Holds}
 use Rattle.protocol.specs.Kinds.{Kind, Row, end, ◌·◌}
 use Rattle.protocol.specs.Refusals.{number_of}
 use Rattle.protocol.specs.declared.refusal.Refusal.{Refusal}
-use Rattle.rules.specs.Writing.{Encoding, wrote, refuse, refusal, followed, write_field, write_row}
-use Rattle.rules.specs.Writing as W
+use Rattle.rules.specs.Writing.{Encoding, wrote, refuse, followed, write_field, write_row}
 use Rattle.byte_strings.specs.Stops.{Stop, stop_at}
-use Rattle.fields.specs.Passes.{length_told, measured, measured_from, measured_row, bound, capped, counted, put_field, put_row}
+use Rattle.fields.specs.Passes.{length_told, measured, measured_from, measured_row, bound, capped, measured_then, put_field, put_row}
 use Rattle.slots.specs.Unflat.{slots_of, unflat_field, unflat_row}
 
 abbrev pub write_slots : Row → List ℕ → List ℕ → Encoding
@@ -85,11 +84,11 @@ module _ (e rest : Encoding) (size : ℕ) where
       by (refuse k) i = i
 
 -- What measuring one field says of where measuring the row stops.
-next_counted : (e : Encoding) (size n m : ℕ) (rest : ℕ → Stop) → length_told (Ok n) ≡ measured e → m ≡ capped (size + n) → rest m ≡ counted size e rest
+next_counted : (e : Encoding) (size n m : ℕ) (rest : ℕ → Stop) → length_told (Ok n) ≡ measured e → m ≡ capped (size + n) → rest m ≡ measured_then size e rest
 next_counted (wrote b) size n m rest i j = let l : n ≡ length b = cc in ap rest (j ∙ ap (λ k. capped (size + k)) l)
 next_counted (refuse k) size n m rest i j = cc
 
-stops_there : (e : Encoding) (size : ℕ) (r : Refusal) (rest : ℕ → Stop) → length_told (Err r) ≡ measured e → stop_at size (number_of r) ≡ counted size e rest
+stops_there : (e : Encoding) (size : ℕ) (r : Refusal) (rest : ℕ → Stop) → length_told (Err r) ≡ measured e → stop_at size (number_of r) ≡ measured_then size e rest
 stops_there (wrote b) size r rest i = cc
 stops_there (refuse k) size r rest i = let l : number_of r ≡ k = cc in ap (stop_at size) l
 
@@ -97,29 +96,29 @@ stops_there (refuse k) size r rest i = let l : number_of r ≡ k = cc in ap (sto
 
 -- What is left of a row, whose slots these are.
 module _ (left : Row) (src s : List ℕ) where
-  module _ (kind : Kind) (behind : Row) (e : left ≡ kind · behind) where
+  module _ (kind : Kind) (row : Row) (e : left ≡ kind · row) where
     module _ (size n m : ℕ) (o : length_told (Ok n) ≡ measured (write_field kind src (unflat_field kind s))) (j : m ≡ capped (size + n)) where
-      pub measures_next : measured_from m (write_slots behind src (drop (slots_of kind) s)) ≡ measured_from size (write_slots left src s)
-      measures_next = rw e (first_counted (write_field kind src (unflat_field kind s)) (write_slots behind src (drop (slots_of kind) s)) size n m o j)
+      pub measures_next : measured_from m (write_slots row src (drop (slots_of kind) s)) ≡ measured_from size (write_slots left src s)
+      measures_next = rw e (first_counted (write_field kind src (unflat_field kind s)) (write_slots row src (drop (slots_of kind) s)) size n m o j)
 
-      pub stops_next : measure_slots m behind src (drop (slots_of kind) s) ≡ measure_slots size left src s
+      pub stops_next : measure_slots m row src (drop (slots_of kind) s) ≡ measure_slots size left src s
       unfolding measured_row
-      stops_next = rw e (next_counted (write_field kind src (unflat_field kind s)) size n m (λ at. measure_slots at behind src (drop (slots_of kind) s)) o j)
+      stops_next = rw e (next_counted (write_field kind src (unflat_field kind s)) size n m (λ at. measure_slots at row src (drop (slots_of kind) s)) o j)
 
     module _ (size : ℕ) (r : Refusal) (o : length_told (Err r) ≡ measured (write_field kind src (unflat_field kind s))) where
-      pub measure_refused : refusal (number_of r) ≡ measured_from size (write_slots left src s)
-      measure_refused = rw e (first_refused (write_field kind src (unflat_field kind s)) (write_slots behind src (drop (slots_of kind) s)) size r o)
+      pub measure_refused : length_told (Err r) ≡ measured_from size (write_slots left src s)
+      measure_refused = rw e (first_refused (write_field kind src (unflat_field kind s)) (write_slots row src (drop (slots_of kind) s)) size r o)
 
       pub stops_here : stop_at size (number_of r) ≡ measure_slots size left src s
       unfolding measured_row
-      stops_here = rw e (stops_there (write_field kind src (unflat_field kind s)) size r (λ at. measure_slots at behind src (drop (slots_of kind) s)) o)
+      stops_here = rw e (stops_there (write_field kind src (unflat_field kind s)) size r (λ at. measure_slots at row src (drop (slots_of kind) s)) o)
 
-    pub puts_next : (g h : Holds) → h ≡ put_field kind src (unflat_field kind s) g → put_slots behind src (drop (slots_of kind) s) h ≡ put_slots left src s g
+    pub puts_next : (g h : Holds) → h ≡ put_field kind src (unflat_field kind s) g → put_slots row src (drop (slots_of kind) s) h ≡ put_slots left src s g
     unfolding put_row
     puts_next g h p = rw (e, p)
 
   module _ (e : left ≡ end) where
-    pub all_measured : (size : ℕ) → size ≤ bound → W.length size ≡ measured_from size (write_slots left src s)
+    pub all_measured : (size : ℕ) → size ≤ bound → length_told (Ok size) ≡ measured_from size (write_slots left src s)
     all_measured size l = let z : size + 0 ≡ size = omega arith in rw (e, z, capped_exact size l)
 
     pub all_stops : (size : ℕ) → stop_at size 0 ≡ measure_slots size left src s

@@ -4,7 +4,7 @@ ghost use Rattle.wire.specs.Buffer.{holds};
 ghost use Rattle.protocol.specs.Layouts.{kind_of, row_by};
 ghost use Rattle.rules.specs.Writing.{write_field, write_row, write_offset};
 ghost use Rattle.byte_strings.specs.Stops.{told};
-ghost use Rattle.fields.specs.Passes.{length_said, length_told, measured, measured_from, measured_row, put_field, put_row, put_offset};
+ghost use Rattle.fields.specs.Passes.{length_or_refusal, length_told, measured, measured_from, measured_row, put_field, put_row, put_offset};
 ghost use Rattle.slots.specs.Unflat.{unflat_field, unflat_offset, unflat_row};
 
 use crate::chunk::{measure_chunk, put_chunk};
@@ -18,8 +18,8 @@ use protocol::{FieldKind, LayoutField, OffsetSpecification, Refusal};
 use slots::{list_of, nullable_of, offset_of, place_of, slot, slots_behind};
 use wire::Width;
 
-// The length of a layout's fields, whose slots these are, with so many bytes in front of them. A refusal has the length in front of
-// the field that is refused. What is no field is passed over.
+// The length of a layout's fields, whose slots these are, with so many bytes in front of them. The place of a refusal is the length
+// in front of the field that is refused, `start` included.
 pub fn measure_fields<F: LayoutField>(
     start: usize,
     src: &[u8],
@@ -27,13 +27,13 @@ pub fn measure_fields<F: LayoutField>(
     fields: &[F],
 ) -> Result<usize, Fault>
     ensures value { told result ≡ measured_row start (row_by F.stands_for fields.now) src.now (unflat_row (row_by F.stands_for fields.now) slots.now) }
-    ensures length { length_said result ≡ measured_from start (write_row (row_by F.stands_for fields.now) src.now (unflat_row (row_by F.stands_for fields.now) slots.now)) }
+    ensures length { length_or_refusal result ≡ measured_from start (write_row (row_by F.stands_for fields.now) src.now (unflat_row (row_by F.stands_for fields.now) slots.now)) }
 {
     let mut size = start;
     let mut rest = slots;
     for field in fields {
         let Some(kind) = field.kind() else {
-            continue;
+            continue; // It has no length.
         };
         match measure_field(src, rest, kind) {
             Ok(len) => size = size.saturating_add(len),
@@ -58,7 +58,7 @@ pub fn put_fields<F: LayoutField>(
     let mut rest = slots;
     for field in fields {
         let Some(kind) = field.kind() else {
-            continue;
+            continue; // It has no bytes.
         };
         at = put_field(out, at, src, rest, kind);
         rest = slots_behind(rest, kind);

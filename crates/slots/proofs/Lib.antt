@@ -5,5 +5,6 @@ pub mod Padding
 pub mod Overlaid
 pub mod Fields
 pub mod RoundTrips
+pub mod SlotsInRow
 pub mod Zeros
 pub mod Demand2

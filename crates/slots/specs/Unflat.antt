@@ -64,7 +64,7 @@ slots_of (specification admits_none) = 2
 slots_of (list rule row) = 3
 slots_of chunk = 14
 
--- Of no field, none.
+-- None where there is no kind.
 abbrev pub slots_for : Option Kind → ℕ
 slots_for none = 0
 slots_for (some kind) = slots_of kind

@@ -13,7 +13,7 @@ use wire::Unsigned;
 // The length of a null, whose place is 0.
 pub const NULL_LENGTH: usize = 0xffff_ffff_ffff_ffff;
 
-// How many slots a field of a kind takes. What is no field takes none.
+// How many slots a field of a kind takes; none where there is no kind.
 pub fn slots_of(kind: Option<FieldKind>) -> usize
     ensures value { result ≡ kinds.slots_for (kind_said kind) }
     ensures most { result ≤ 14 }

@@ -1,6 +1,7 @@
--- One field, and those behind it.
+-- A field that stands for no kind leaves the row as it was. One that stands for a kind is the row's first, and measuring goes on from it,
+-- or stops there.
 use Rattle.std.proofs.Common.{◌∙◌, arith}
-use Rattle.protocol.proofs.LayoutRows.{kind_first, none_left, passed}
+use Rattle.protocol.proofs.LayoutRows.{kind_first, passed, row_ends}
 use Rattle.slot_writing.proofs.Rows.{all_measured, all_stops, capped_min, measure_refused, measures_next, stops_here, stops_next}
 use Rattle.slot_writing.proofs.writing.measure_fields.Goals as goal
 
@@ -30,10 +31,10 @@ loop-field-preserved g c =
 
 pub returns-clause-value : goal.returns-clause-value
 returns-clause-value g c =
-    let e = none_left g.F.LayoutField.stands_for c.args.fields.now c.loop-field.field-index (omega arith) in
+    let e = row_ends g.F.LayoutField.stands_for c.args.fields.now c.loop-field.field-index (omega arith) in
     all_stops _ c.args.src.now c.loop-field.rest.now e c.loop-field.size ∙ c.loop-field.invariant.stops
 
 pub returns-clause-length : goal.returns-clause-length
 returns-clause-length g c =
-    let e = none_left g.F.LayoutField.stands_for c.args.fields.now c.loop-field.field-index (omega arith) in
+    let e = row_ends g.F.LayoutField.stands_for c.args.fields.now c.loop-field.field-index (omega arith) in
     all_measured _ c.args.src.now c.loop-field.rest.now e c.loop-field.size c.loop-field.invariant.short ∙ c.loop-field.invariant.length

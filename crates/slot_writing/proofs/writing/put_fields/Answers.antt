@@ -1,6 +1,6 @@
--- One field, and those behind it.
+-- A field that stands for no kind leaves the row as it was. One that stands for a kind is the row's first, and the rest is put behind it.
 use Rattle.std.proofs.Common.{◌∙◌, sym, arith}
-use Rattle.protocol.proofs.LayoutRows.{kind_first, none_left, passed}
+use Rattle.protocol.proofs.LayoutRows.{kind_first, passed, row_ends}
 use Rattle.slot_writing.proofs.Rows.{all_put, puts_next}
 use Rattle.slot_writing.proofs.writing.put_fields.Goals as goal
 
@@ -15,5 +15,5 @@ loop-field-preserved g c =
 
 pub returns : goal.returns
 returns g c =
-    let e = none_left g.F.LayoutField.stands_for c.args.fields.now c.loop-field.field-index (omega arith) in
+    let e = row_ends g.F.LayoutField.stands_for c.args.fields.now c.loop-field.field-index (omega arith) in
     sym (all_put _ c.args.src.now c.loop-field.rest.now e _) ∙ c.loop-field.invariant

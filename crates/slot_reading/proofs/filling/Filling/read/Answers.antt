@@ -1,7 +1,7 @@
 -- Each field fills its slots, and what is left of the row fills those behind them.
 use Rattle.std.proofs.Common.{◌≡◌, refl, ◌∙◌, ap, length, arith, rules}
 use Rattle.std.proofs.lemmas.Result.{err_from_is_err_and}
-use Rattle.protocol.proofs.LayoutRows.{kind_first, none_left, passed}
+use Rattle.protocol.proofs.LayoutRows.{kind_first, passed, row_ends}
 use Rattle.slot_reading.proofs.RowSlots.{field_length, none_fills, none_stops, one_fills, one_refused, one_stops, refused_filled}
 use Rattle.slot_reading.proofs.filling.Filling.read.Goals as goal
 
@@ -43,8 +43,8 @@ loop-field-preserved g c =
 
 pub returns-clause-value : goal.returns-clause-value
 returns-clause-value g c =
-    none_stops c.args.self.now.base c.args.s.now _ c.loop-field.at (none_left g.F.LayoutField.stands_for c.args.fields.now c.loop-field.field-index (omega arith)) ∙ c.loop-field.invariant.stops
+    none_stops c.args.self.now.base c.args.s.now _ c.loop-field.at (row_ends g.F.LayoutField.stands_for c.args.fields.now c.loop-field.field-index (omega arith)) ∙ c.loop-field.invariant.stops
 
 pub returns-clause-filled : goal.returns-clause-filled
 returns-clause-filled g c =
-    c.loop-field.invariant.fills _ (none_fills c.args.self.now.base c.args.s.now _ c.loop-field.at (none_left g.F.LayoutField.stands_for c.args.fields.now c.loop-field.field-index (omega arith)) _ _)
+    c.loop-field.invariant.fills _ (none_fills c.args.self.now.base c.args.s.now _ c.loop-field.at (row_ends g.F.LayoutField.stands_for c.args.fields.now c.loop-field.field-index (omega arith)) _ _)
