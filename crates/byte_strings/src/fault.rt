@@ -10,7 +10,7 @@ pub struct Fault {
     pub at: usize,
 }
 
-// A writer answers with the refusal alone.
+// For a writer that answers with the refusal alone.
 impl From<Fault> for Refusal {
     ghost from_gives = { λ fault refusal. refusal ≡ fault.refusal };
 

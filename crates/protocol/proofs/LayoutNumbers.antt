@@ -1,5 +1,7 @@
--- Each row is computed from its numbers, and is the table's.
+-- Each row is computed from its numbers. Behind its end a list has its default, which is no kind.
 use mathlib.Core.Path.{refl}
+use lib.ListN.{get_or-eq_default}
+use Rattle.std.proofs.Math.Option.{none}
 use Rattle.protocol.specs.LayoutNumbers.{LayoutNumbers}
 use Rattle.protocol.specs.Layouts.{kinds, row_by}
 use Rattle.protocol.specs.Table.{row_in, table}
@@ -27,4 +29,6 @@ layout_numbers =
       stream_metadata = refl;
       statistic = refl;
       credit = refl;
+      zero = refl;
+      no_other = λ n h. get_or-eq_default kinds none h;
     }

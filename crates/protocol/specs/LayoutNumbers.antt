@@ -1,6 +1,7 @@
--- Layouts and elements by the numbers of their fields' kinds. Every number stands in one, so a number that stood for another kind is
--- refused where definition and code agree.
-use Rattle.std.specs.Prelude.{◌≡◌, List, [], ◌∷◌, ℕ}
+-- Layouts and elements by the numbers of their fields' kinds. Each number from 1 to 26 stands in one, so that no definition can give it
+-- another kind. All other numbers are no kind's.
+use Rattle.std.specs.Prelude.{◌≡◌, ◌≤◌, List, [], ◌∷◌, ℕ}
+use Rattle.std.proofs.Math.Option.{none}
 use Rattle.protocol.specs.Kinds.{Row, element_row}
 use Rattle.protocol.specs.Layouts.{kind_numbered, row_by}
 use Rattle.protocol.specs.Table.{row_of}
@@ -28,5 +29,7 @@ pub record LayoutNumbers : Type 0 where
   pub filtered_message : by_number (4 ∷ 10 ∷ 9 ∷ []) ≡ element_row FilteredMessage
   pub stream_metadata : by_number (7 ∷ 2 ∷ 2 ∷ 26 ∷ []) ≡ element_row StreamMetadata
   pub statistic : by_number (7 ∷ 5 ∷ []) ≡ element_row Statistic
-  -- 0 and the numbers above 26 are no kind's.
+  -- What is no kind's is passed over.
   pub credit : by_number (0 ∷ 1 ∷ 27 ∷ 2 ∷ 0 ∷ 255 ∷ []) ≡ row_of 0x0009 1
+  pub zero : kind_numbered 0 ≡ none
+  pub no_other : (n : ℕ) → 27 ≤ n → kind_numbered n ≡ none

@@ -1,9 +1,9 @@
 // The kinds of field that a layout or a list's element has, each with its notation in 01 ("Numbers and text on the wire",
 // "Frame and keys"); and what may stand for them.
-ghost use Rattle.std.specs.Prelude.{◌≡◌};
+ghost use Rattle.std.specs.Prelude.{◌≡◌, map};
 ghost use Rattle.std.proofs.Math.Option.{Option};
 ghost use Rattle.protocol.specs.Kinds.{Kind};
-ghost use Rattle.protocol.specs.Layouts.{kind_numbered, kind_said, own_kind};
+ghost use Rattle.protocol.specs.Layouts.{kind_numbered, kind_said, kinds, own_kind};
 
 use crate::kind::{Element, FieldKind, Form, ListKind, ListRule};
 use wire::Width;
@@ -113,46 +113,52 @@ pub const BROKER_REFERENCES: FieldKind = FieldKind::List(ListKind {
 });
 
 // The kinds by their numbers, which are the library's own and stand in no frame. 0 is no kind's.
-const KINDS: [Option<FieldKind>; 27] = [
-    None,
-    Some(U8),
-    Some(U16),
-    Some(U32),
-    Some(U64),
-    Some(I64),
-    Some(ACTIVE),
-    Some(TEXT),
-    Some(REFERENCE),
-    Some(BYTES),
-    Some(NULLABLE_TEXT),
-    Some(NULLABLE_REFERENCE),
-    Some(NULLABLE_BYTES),
-    Some(SPECIFICATION),
-    Some(SPECIFICATION_OR_NONE),
-    Some(CHUNK),
-    // The lists, from 16 on.
-    Some(MESSAGES),
-    Some(FILTERED_MESSAGES),
-    Some(PUBLISHING_IDS),
-    Some(PUBLISHING_ERRORS),
-    Some(PROPERTIES),
-    Some(NAMES),
-    Some(COMMAND_VERSIONS),
-    Some(BROKERS),
-    Some(STREAMS),
-    Some(STATISTICS),
-    Some(BROKER_REFERENCES),
-];
+#[tactic(auto, unfolding(crate::specs::Layouts::kinds))]
+fn kinds() -> &'static [Option<FieldKind>]
+    ensures { map kind_said result.now ≡ kinds }
+{
+    &[
+        None,
+        Some(U8),
+        Some(U16),
+        Some(U32),
+        Some(U64),
+        Some(I64),
+        Some(ACTIVE),
+        Some(TEXT),
+        Some(REFERENCE),
+        Some(BYTES),
+        Some(NULLABLE_TEXT),
+        Some(NULLABLE_REFERENCE),
+        Some(NULLABLE_BYTES),
+        Some(SPECIFICATION),
+        Some(SPECIFICATION_OR_NONE),
+        Some(CHUNK),
+        // The lists, from 16 on.
+        Some(MESSAGES),
+        Some(FILTERED_MESSAGES),
+        Some(PUBLISHING_IDS),
+        Some(PUBLISHING_ERRORS),
+        Some(PROPERTIES),
+        Some(NAMES),
+        Some(COMMAND_VERSIONS),
+        Some(BROKERS),
+        Some(STREAMS),
+        Some(STATISTICS),
+        Some(BROKER_REFERENCES),
+    ]
+}
 
 // The kind of field that a number stands for, if it stands for one.
 pub fn field_kind(number: u8) -> Option<FieldKind>
     ensures { kind_said result ≡ kind_numbered number }
 {
+    let kinds = kinds();
     let number = number as usize;
-    if KINDS.len() <= number {
+    if kinds.len() <= number {
         return None;
     }
-    KINDS[number]
+    kinds[number]
 }
 
 // What stands in a layout for a kind of field: the kind itself, or its number. A number that is no kind's is passed over.

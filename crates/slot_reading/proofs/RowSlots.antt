@@ -81,7 +81,7 @@ module _ (base : ℕ) (s : List ℕ) (left : Row) (at : ℕ) where
       pub one_stops : stop (read_row row s next) ≡ stop (read_row left s at)
       one_stops = rw e (row_stops base s kind row at next r)
 
-      -- The slots after the field are those of what is left, or lie row the last one.
+      -- The slots after the field are those of what is left, or lie behind the last one.
       pub one_fills : (now new : List ℕ) (slot n after : ℕ) → new ≡ field_slots base kind (read_field kind s at) now slot → n ≡ slots_of kind → after ≡ min (slot + n) (2 ^ 64 - 1) → length new < 0x1_0000_0000_0000_0000 → Continues base s row next new after left at now slot
       one_fills now new slot n after p m q short more f =
           rw e (row_fills base s kind row at next r now new slot n p m more (by (leb (slot + n) 0xffff_ffff_ffff_ffff) refl))

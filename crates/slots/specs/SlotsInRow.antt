@@ -1,4 +1,4 @@
--- The slots of a row are those of what stands for its fields, together: what stands for no kind has none.
+-- The slots of a row are those of what stands for its fields, together: what is no kind takes none.
 use Rattle.std.specs.Prelude.{◌≡◌, List, ◌∷◌, ◌+◌}
 use Rattle.std.proofs.Math.Option.{Option}
 use Rattle.protocol.specs.Kinds.{Kind}
