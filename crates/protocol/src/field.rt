@@ -1,6 +1,7 @@
 // The kinds of field that a layout or a list's element has, each with its notation in 01 ("Numbers and text on the wire",
 // "Frame and keys"); and what may stand for them.
 ghost use Rattle.std.specs.Prelude.{◌≡◌, map};
+ghost use Rattle.std.specs.Option.{option_copied};
 ghost use Rattle.std.proofs.Math.Option.{Option};
 ghost use Rattle.protocol.specs.Kinds.{Kind};
 ghost use Rattle.protocol.specs.Layouts.{kind_numbered, kind_said, kinds, own_kind};
@@ -153,12 +154,18 @@ fn kinds() -> &'static [Option<FieldKind>]
 pub fn field_kind(number: u8) -> Option<FieldKind>
     ensures { kind_said result ≡ kind_numbered number }
 {
+    numbered(number).copied()
+}
+
+fn numbered(number: u8) -> Option<&'static FieldKind>
+    ensures { kind_said (option_copied result) ≡ kind_numbered number }
+{
     let kinds = kinds();
     let number = number as usize;
     if kinds.len() <= number {
         return None;
     }
-    kinds[number]
+    kinds[number].as_ref()
 }
 
 // What stands in a layout for a kind of field: the kind itself, or its number. A number that is no kind's is passed over.
@@ -166,24 +173,24 @@ pub trait LayoutField {
     // The kind, if there is one.
     ghost stands_for: { Self → Option Kind };
 
-    fn kind(&self) -> Option<FieldKind>
-        ensures { kind_said result ≡ stands_for self.now };
+    // It is lent, so that a loop over kinds reads each where it stands.
+    fn kind(&self) -> Option<&FieldKind>
+        ensures { kind_said (option_copied result) ≡ stands_for self.now };
 }
 
 impl LayoutField for FieldKind {
     ghost stands_for = { own_kind };
 
-    // A loop over kinds then has no test of whether there is one.
     #[inline(always)]
-    fn kind(&self) -> Option<FieldKind> {
-        Some(*self)
+    fn kind(&self) -> Option<&FieldKind> {
+        Some(self)
     }
 }
 
 impl LayoutField for u8 {
     ghost stands_for = { kind_numbered };
 
-    fn kind(&self) -> Option<FieldKind> {
-        field_kind(*self)
+    fn kind(&self) -> Option<&FieldKind> {
+        numbered(*self)
     }
 }

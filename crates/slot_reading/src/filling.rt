@@ -53,9 +53,9 @@ impl<const N: usize> Filling<N> {
             let Some(kind) = field.kind() else {
                 continue;
             };
-            at = self.read_field(s, at, kind)?;
+            at = self.read_field(s, at, *kind)?;
             // Behind the last slot one place is as another.
-            self.next = self.next.saturating_add(slots_of(Some(kind)));
+            self.next = self.next.saturating_add(slots_of(Some(*kind)));
         }
         Ok(at)
     }

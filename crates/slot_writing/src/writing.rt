@@ -35,11 +35,11 @@ pub fn measure_fields<F: LayoutField>(
         let Some(kind) = field.kind() else {
             continue; // It has no length.
         };
-        match measure_field(src, rest, kind) {
+        match measure_field(src, rest, *kind) {
             Ok(len) => size = size.saturating_add(len),
             Err(refusal) => return Err(Fault { refusal, at: size }),
         }
-        rest = slots_behind(rest, kind);
+        rest = slots_behind(rest, *kind);
     }
     Ok(size)
 }
@@ -60,8 +60,8 @@ pub fn put_fields<F: LayoutField>(
         let Some(kind) = field.kind() else {
             continue; // It has no bytes.
         };
-        at = put_field(out, at, src, rest, kind);
-        rest = slots_behind(rest, kind);
+        at = put_field(out, at, src, rest, *kind);
+        rest = slots_behind(rest, *kind);
     }
     at
 }
