@@ -157,6 +157,7 @@ pub fn field_kind(number: u8) -> Option<FieldKind>
     numbered(number).copied()
 }
 
+// The same, lent from the table.
 fn numbered(number: u8) -> Option<&'static FieldKind>
     ensures { kind_said (option_copied result) ≡ kind_numbered number }
 {
@@ -182,7 +183,9 @@ impl LayoutField for FieldKind {
     ghost stands_for = { own_kind };
 
     #[inline(always)]
-    fn kind(&self) -> Option<&FieldKind> {
+    fn kind(&self) -> Option<&FieldKind>
+        ensures { kind_said (option_copied result) ≡ own_kind self.now }
+    {
         Some(self)
     }
 }
@@ -190,7 +193,9 @@ impl LayoutField for FieldKind {
 impl LayoutField for u8 {
     ghost stands_for = { kind_numbered };
 
-    fn kind(&self) -> Option<&FieldKind> {
+    fn kind(&self) -> Option<&FieldKind>
+        ensures { kind_said (option_copied result) ≡ kind_numbered self.now }
+    {
         numbered(*self)
     }
 }
